@@ -1,0 +1,4 @@
+-- The laws of the bands, and the history theorem.
+pub mod Choice
+pub mod Bands
+pub mod Reached
