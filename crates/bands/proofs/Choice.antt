@@ -31,6 +31,11 @@ module _ (p : ℕ → Bool) where
   unfolding every
   every-more n h k = rw (h, k)
 
+  pub every-all : (n : ℕ) → ((t : ℕ) → t < n → p t ≡ true) → every n p ≡ true
+  unfolding every
+  every-all zero h = refl
+  every-all (suc n) h = every-more n (every-all n (λ t k. h t (omega arith))) (h n (omega arith))
+
   pub every-not : (n t : ℕ) → t < n → p t ≡ false → every n p ≡ false
   unfolding every
   every-not zero t k h = absurd (omega arith)

@@ -2,3 +2,5 @@
 pub mod Choice
 pub mod Bands
 pub mod Reached
+pub mod States
+pub mod Grow
