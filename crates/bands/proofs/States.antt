@@ -29,6 +29,9 @@ pub record Fair (rows : ℕ) (b : Band) : Type 0 where
   pub within : b .end ≤ rows
   pub canon : Canon b
 
+pub canon-fair : (rows : ℕ) (b : Band) → b .end ≤ rows → Canon b → Fair rows b
+canon-fair rows b h c = record { order = ⊎-elim (λ k. omega arith) (λ e. rw e (omega arith)) c; within = h; canon = c }
+
 same-band : (b : Band) (f e : ℕ) → b .first ≡ f → b .end ≡ e → b ≡ band f e
 same-band b f e p q = λ t. record { first = p t; end = q t }
 
