@@ -82,6 +82,12 @@ cover-cases P a b p q r = go (isEmpty a) (isEmpty b) refl refl
     go false true x y = q (leb-false _ _ x) (leb-true _ _ y)
     go false false x y = r (leb-false _ _ x) (leb-false _ _ y)
 
+-- what the code returns for two bands with rows
+pub both-cover : (a b : Band) (f e : ℕ) → a .first < a .end → b .first < b .end
+    → f ≡ min (a .first) (b .first) → e ≡ max (a .end) (b .end) → band f e ≡ cover a b
+unfolding cover
+both-cover a b f e ha hb hf he = rw (lt-leb _ _ ha, lt-leb _ _ hb) (λ t. record { first = hf t; end = he t })
+
 pub cover-left : (a b : Band) → Inside a (cover a b)
 cover-left a b i w = cover-cases (In i) a b (λ h. omega arith) (λ h k. w) (λ h k. omega arith)
 

@@ -1,7 +1,7 @@
 -- Any history of calls is one of the model's, so that an accepted reading is the last tensor of a fresh run.
 -- Assumes nothing.
-use Prim.Native.Nat.{ℕ, zero, suc, _≤_, _<_, _+_}
-use mathlib.Core.Path.{_≡_, sym, ap, _∙_}
+use Prim.Native.Nat.{ℕ, suc, _≤_, _<_, _+_}
+use mathlib.Core.Path.{_≡_, ap, _∙_}
 use mathlib.Core.Logic.{_⊎_, inl, inr}
 use mathlib.Core.Bool.{true}
 use mathlib.Core.List.{List}
@@ -23,7 +23,7 @@ use Rattle.bands.specs.Calls.{Held, Tells, Fit, Loading, Changing, Repla
 use Rattle.bands.specs.Calls.Call.{changes, replaces, updates, nothing}
 use Rattle.bands.specs.Calls.Calls.{loads, calls}
 use Rattle.bands.proofs.Bands.{past}
-use Rattle.bands.proofs.States.{Fair, passed-fair, clean-none, loaded-at}
+use Rattle.bands.proofs.States.{passed-fair, clean-none, loaded-at}
 use Rattle.bands.proofs.History.{grown-within, ran-once, clean-is-ran}
 use Rattle.bands.proofs.Area.{area-ran, part-sets, row-end, whole-by-rows}
 

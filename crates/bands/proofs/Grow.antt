@@ -2,12 +2,11 @@
 -- Assumes nothing.
 use Prim.Native.Nat.{ℕ, zero, suc, _≤_, _<_, _+_}
 use mathlib.Core.Path.{_≡_, refl, sym, ap, _∙_, fun-ext}
-use mathlib.Core.Logic.{⊎-elim}
 use native.Mathlib.Omega.{arith}
 use native.Mathlib.Numerals.{add-one}
-use native.Mathlib.Decide.{ℕ-discrete, decLt}
+use native.Mathlib.Decide.{ℕ-discrete}
 use lib.ListN.{length, length-set}
-use lib.Seq.{getD-set-same, getD-set-other, set-out}
+use lib.Seq.{getD-set-same, getD-set-other}
 use Rattle.bands.specs.declared.band.Band.{Band}
 use Rattle.bands.specs.declared.state.State.{State}
 use Rattle.bands.specs.declared.reach.Link.{Link}
@@ -17,9 +16,9 @@ use Rattle.bands.specs.Reach.{reachedBand}
 use Rattle.bands.specs.Grow.{grownBand, growOne, grown}
 use Rattle.bands.specs.History.{put, growStep, growTo, grownOf}
 use Rattle.bands.specs.Windows.{Shape, rowsIn, windowed}
-use Rattle.bands.proofs.Bands.{Canon, cover-below, cover-canon}
+use Rattle.bands.proofs.Bands.{cover-below}
 use Rattle.bands.proofs.Reached.{reached-within, reached-canon}
-use Rattle.bands.proofs.States.{Fair, canon-fair}
+use Rattle.bands.proofs.States.{Fair, canon-fair, cover-fair, with-each}
 use Rattle.bands.proofs.History.{put-same, put-other, grow-keeps}
 
 -- what the code does for a layer is one layer's step
@@ -36,16 +35,6 @@ length-grow s links zero = refl
 length-grow s links (suc m) = simp length-set (length-grow s links m)
 
 -- ---- what holds of each band given, of what is reached and of what covers two holds of each grown band
-
-with-each : (P : ℕ → Band → Type 0) (s : State) (k : ℕ) (b : Band) → P k b → (t : ℕ) → P t (bandOf s t) → P t (bandOf (withBand s k b) t)
-with-each P s k b hb t h =
-    elim (ℕ-discrete t k) [
-      | yes e ↦ elim (decLt k (length (s .bands))) [
-        | yes l ↦ rw (e, getD-set-same (s .bands) k b none l) hb
-        | no l ↦ rw (set-out (s .bands) k b (omega arith)) h
-      ]
-      | no e ↦ rw (getD-set-other (s .bands) k t b none e) h
-    ]
 
 module _ (P : ℕ → Band → Type 0) (links : ℕ → Link) (n : ℕ) where
   pub grow-each : ((m : ℕ) (a b : Band) → m < n → P (suc m) a → P (suc m) b → P (suc m) (cover a b))
@@ -71,7 +60,7 @@ pub grow-good : (G : Shape) (s : State) → ((t : ℕ) → t ≤ G .n → Fair (
     → (m : ℕ) → m ≤ G .n → (t : ℕ) → t ≤ G .n → Fair (rowsIn G t) (bandOf (grown s (G .links) m) t)
 grow-good G =
     grow-each (λ t b. t ≤ G .n → Fair (rowsIn G t) b) (G .links) (G .n)
-    (λ m a b hm p q ht. canon-fair _ _ (cover-below _ a b (p ht .within) (q ht .within)) (cover-canon a b (p ht .canon) (q ht .canon)))
+    (λ m a b hm p q ht. cover-fair _ a b (p ht) (q ht))
     (λ m b hm ht. canon-fair _ _ (reached-within b (G .links m)) (reached-canon b (G .links m)))
 
 -- ---- the state's bands are the model's

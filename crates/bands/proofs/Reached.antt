@@ -1,14 +1,14 @@
 -- The rows of a windowed layer that a band of its input reaches: the band of the document's rule holds them and is the smallest that does,
 -- two divisions give it, and what it is for a full layer and for an add.
 -- Assumes nothing.
-use Prim.Native.Nat.{ℕ, zero, suc, _≤_, _<_, _+_, _-_, _*_, _/_, min, max}
+use Prim.Native.Nat.{ℕ, suc, _≤_, _<_, _+_, _-_, _*_, _/_, min, max}
 use mathlib.Core.Path.{_≡_, refl}
 use mathlib.Core.Logic.{inl, inr}
 use mathlib.Core.Bool.{Bool, true, false, and-eq-true-iff}
 use native.Mathlib.Nat.{div-lt-iff-lt-mul, le-div-iff-mul-le}
 use native.Mathlib.Omega.{arith}
 use lib.Dec.{ltb, leb}
-use borrow.Author.Tests.{leb-true, ltb-true, ltb-false, le-leb}
+use borrow.Author.Tests.{leb-true, ltb-true, ltb-false, le-leb, lt-ltb, le-ltb}
 use Rattle.bands.specs.declared.band.Band.{Band}
 use Rattle.bands.specs.declared.reach.Link.{Link}
 use Rattle.bands.specs.Choice.{pick}
@@ -153,6 +153,17 @@ module _ (b : Band) (y : Link) (hk : 0 < y .kernel) (hs : 0 < y .stride) where
       (λ i w.
       let x = in-divided i w in
       reached-in b y i (x .0) (x .1))
+
+  -- what the code returns for a band that is not empty
+  module _ (l e : ℕ) (hb : b .first < b .end) (hl : l ≡ b .first + y .before + y .stride - y .kernel)
+      (he : e ≡ min (y .rows) ((b .end + y .before - 1) / y .stride + 1)) where
+    pub some-reached : l / y .stride < e → band (l / y .stride) e ≡ reachedBand b y
+    unfolding divided
+    some-reached h = rw (reached-divided, lt-ltb _ _ hb, ← hl, ← he, lt-ltb _ _ h)
+
+    pub none-reached : e ≤ l / y .stride → none ≡ reachedBand b y
+    unfolding divided
+    none-reached h = rw (reached-divided, lt-ltb _ _ hb, ← hl, ← he, le-ltb _ _ h)
 
   -- so the reached band holds only rows that are reached
   pub in-reached : (i : ℕ) → In i (reachedBand b y) → (i < y .rows) × Hit b y i

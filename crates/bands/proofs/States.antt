@@ -1,25 +1,24 @@
--- The state: what test 5 says, that it refuses the all-stale state, what a clean state is, and the bands that a load leaves.
+-- The state: what test 5 says, that it refuses the all-stale state, that each call leaves a state that passes it, and what a clean state is.
 -- Assumes nothing.
-use Prim.Native.Nat.{ℕ, zero, suc, _≤_, _<_, _+_, _-_}
-use mathlib.Core.Path.{_≡_, refl, sym, ap, _∙_}
+use Prim.Native.Nat.{ℕ, zero, suc, _≤_, _<_}
+use mathlib.Core.Path.{_≡_, refl, _∙_}
 use mathlib.Core.Logic.{_⊎_, inl, inr, ⊎-elim}
 use mathlib.Core.Bool.{Bool, true, false, _&&_, _||_, and-eq-true-iff}
-use mathlib.Core.List.{List, [], _∷_, _++_, append-assoc}
 use native.Mathlib.Omega.{arith}
-use native.Mathlib.Numerals.{add-one}
-use native.Mathlib.Decide.{ℕ-discrete, decLe}
+use native.Mathlib.Decide.{ℕ-discrete, decLe, decLt}
 use lib.Dec.{leb, ltb, eqb}
-use lib.ListN.{length, getD, set, replicate, length-append, List·getD-append}
-use lib.Seq.{set-at, getD-at}
-use borrow.Author.Tests.{leb-true, leb-false, ltb-true, ltb-false, eqb-true, le-leb, lt-leb, lt-ltb, eq-eqb}
+use lib.ListN.{length, getD-replicate}
+use lib.Seq.{getD-set-same, getD-set-other, set-out}
+use borrow.Author.Tests.{leb-true, ltb-true, eqb-true, le-leb, lt-leb, lt-ltb}
 use Rattle.bands.specs.declared.band.Band.{Band}
 use Rattle.bands.specs.declared.state.State.{State}
 use Rattle.bands.specs.declared.state.Tensors.{Tensors}
 use Rattle.bands.specs.Choice.{pick, every}
-use Rattle.bands.specs.Band.{band, none, isEmpty}
-use Rattle.bands.specs.State.{bandOf, rowsOf, allStale, fair, absent, fairAt, stateFault, clean, table, loaded}
+use Rattle.bands.specs.Band.{band, none, isEmpty, cover}
+use Rattle.bands.specs.State.{bandOf, rowsOf, withBand, allStale, allEmpty, fair, absent, fairAt, stateFault, clean, loaded, changed, replaced}
 use Rattle.bands.proofs.Choice.{every-at, every-all, every-not}
-use Rattle.bands.proofs.Bands.{Canon}
+use Rattle.bands.proofs.Table.{table-at}
+use Rattle.bands.proofs.Bands.{Canon, cover-below, cover-canon}
 
 -- ---- test 5
 
@@ -31,6 +30,13 @@ pub record Fair (rows : ℕ) (b : Band) : Type 0 where
 
 pub canon-fair : (rows : ℕ) (b : Band) → b .end ≤ rows → Canon b → Fair rows b
 canon-fair rows b h c = record { order = ⊎-elim (λ k. omega arith) (λ e. rw e (omega arith)) c; within = h; canon = c }
+
+pub cover-fair : (rows : ℕ) (a b : Band) → Fair rows a → Fair rows b → Fair rows (cover a b)
+cover-fair rows a b p q = canon-fair rows (cover a b) (cover-below rows a b (p .within) (q .within)) (cover-canon a b (p .canon) (q .canon))
+
+pub whole-fair : (rows : ℕ) → Fair rows (band 0 rows)
+whole-fair zero = canon-fair 0 none (omega arith) (inr refl)
+whole-fair (suc k) = canon-fair (suc k) (band 0 (suc k)) (omega arith) (inl (omega arith))
 
 same-band : (b : Band) (f e : ℕ) → b .first ≡ f → b .end ≡ e → b ≡ band f e
 same-band b f e p q = λ t. record { first = p t; end = q t }
@@ -105,6 +111,54 @@ stale-refused n = refused allStale n 0 (omega arith) (go (leb 0 (n .count)))
     go true = refl
     go false = refl
 
+-- ---- what a load leaves
+
+-- the band of tensor t
+abbrev pub loadedBand : Tensors → ℕ → Band
+loadedBand n t = pick (leb t (n .count)) (band 0 (rowsOf n t)) none
+
+pub loaded-at : (n : Tensors) (t : ℕ) → t < 17 → bandOf (loaded n) t ≡ loadedBand n t
+unfolding loaded
+loaded-at n t h = table-at (loadedBand n) 17 t h
+
+-- ---- each call leaves a state that passes
+
+-- what holds of the stored band and of each other band holds of each band then
+pub with-each : (P : ℕ → Band → Type 0) (s : State) (k : ℕ) (b : Band) → P k b → (t : ℕ) → P t (bandOf s t) → P t (bandOf (withBand s k b) t)
+with-each P s k b hb t h =
+    elim (ℕ-discrete t k) [
+      | yes e ↦ elim (decLt k (length (s .bands))) [
+        | yes l ↦ rw (e, getD-set-same (s .bands) k b none l) hb
+        | no l ↦ rw (set-out (s .bands) k b (omega arith)) h
+      ]
+      | no e ↦ rw (getD-set-other (s .bands) k t b none e) h
+    ]
+
+pub empty-passes : (n : Tensors) → stateFault allEmpty n ≡ 0
+empty-passes n =
+    passes allEmpty n (λ t ht _. rw (getD-replicate 17 t none none ht) (canon-fair _ none (omega arith) (inr refl)))
+    (λ t ht _. getD-replicate 17 t none none ht)
+
+pub loaded-passes : (n : Tensors) → stateFault (loaded n) n ≡ 0
+loaded-passes n =
+    passes (loaded n) n (λ t ht h. rw (loaded-at n t ht, le-leb t (n .count) h) (whole-fair (rowsOf n t)))
+    (λ t ht h. loaded-at n t ht ∙ rw (lt-leb t (n .count) h))
+
+-- where a band that passes is stored
+stored-passes : (s : State) (n : Tensors) (k : ℕ) (b : Band) → stateFault s n ≡ 0 → k ≤ n .count → Fair (rowsOf n k) b → stateFault (withBand s k b) n ≡ 0
+stored-passes s n k b h hk hb =
+    passes (withBand s k b) n
+    (λ t ht hc. with-each (λ t x. t < 17 → t ≤ n .count → Fair (rowsOf n t) x) s k b (λ _ _. hb) t (passed-fair s n h t) ht hc)
+    (λ t ht hc. with-each (λ t x. t < 17 → n .count < t → x ≡ none) s k b (λ _ c. absurd (omega arith)) t (passed-absent s n h t) ht hc)
+
+pub changed-passes : (s : State) (n : Tensors) (first end : ℕ) → stateFault s n ≡ 0 → first < end → end ≤ rowsOf n 0 → stateFault (changed s first end) n ≡ 0
+changed-passes s n first end h p q =
+    stored-passes s n 0 (cover (bandOf s 0) (band first end)) h (omega arith)
+    (cover-fair _ _ _ (passed-fair s n h 0 (omega arith) (omega arith)) (canon-fair _ (band first end) q (inl p)))
+
+pub replaced-passes : (s : State) (n : Tensors) (k : ℕ) → stateFault s n ≡ 0 → k ≤ n .count → stateFault (replaced s k (rowsOf n k)) n ≡ 0
+replaced-passes s n k h hk = stored-passes s n k (band 0 (rowsOf n k)) h hk (whole-fair (rowsOf n k))
+
 -- ---- a clean state
 
 -- that passed test 5 has the band 0,0 everywhere
@@ -117,49 +171,3 @@ clean-none s n h c t ht =
           ⊎-elim (λ x. absurd (omega arith)) (λ x. x) (passed-fair s n h t ht k .canon)
       | no k ↦ passed-absent s n h t ht (omega arith)
     ]
-
--- ---- what a load leaves
-
--- the band of tensor t
-abbrev pub loadedBand : Tensors → ℕ → Band
-loadedBand n t = pick (leb t (n .count)) (band 0 (rowsOf n t)) none
-
-module _ (f : ℕ → Band) where
-  pub length-table : (k : ℕ) → length (table k f) ≡ k
-  unfolding table
-  length-table zero = refl
-  length-table (suc k) = length-append (table k f) (f k ∷ []) ∙ omega (arith, length-table k)
-
-  pub table-at : (k t : ℕ) → t < k → getD (table k f) t none ≡ f t
-  unfolding table
-  table-at zero t h = absurd (omega arith)
-  table-at (suc k) t h =
-      elim (ℕ-discrete t k) [
-        | yes e ↦ rw e (getD-at (table k f) (f k) [] none k (length-table k))
-        | no e ↦ List·getD-append (table k f) (f k ∷ []) none t (omega (arith, length-table k)) ∙ table-at k t (omega arith)
-      ]
-
-  -- the first t bands are there, the others are none
-  abbrev pub filled : ℕ → List Band
-  filled t = table t f ++ replicate (17 - t) none
-
-  filled-one : (t : ℕ) → t < 17 → filled t ≡ table t f ++ none ∷ replicate (17 - (t + 1)) none
-  filled-one t h = let e : 17 - t ≡ suc (17 - (t + 1)) = omega arith in rw e
-
-  filled-more : (t : ℕ) → table t f ++ f t ∷ replicate (17 - (t + 1)) none ≡ filled (t + 1)
-  unfolding table
-  filled-more t = rw (add-one t, append-assoc)
-
-  -- one turn of the code's loop, with a store and without
-  pub fill-store : (t : ℕ) (l : List Band) (b : Band) → t < 17 → l ≡ filled t → b ≡ f t → set l t b ≡ filled (t + 1)
-  fill-store t l b h e x =
-      ap (λ g. set g t b) (e ∙ filled-one t h) ∙ set-at (table t f) none (replicate (17 - (t + 1)) none) b t (length-table t)
-      ∙ ap (λ v. table t f ++ v ∷ replicate (17 - (t + 1)) none) x
-      ∙ filled-more t
-
-  pub fill-skip : (t : ℕ) (l : List Band) → t < 17 → l ≡ filled t → none ≡ f t → l ≡ filled (t + 1)
-  fill-skip t l h e x = e ∙ filled-one t h ∙ ap (λ v. table t f ++ v ∷ replicate (17 - (t + 1)) none) x ∙ filled-more t
-
-pub loaded-at : (n : Tensors) (t : ℕ) → t < 17 → bandOf (loaded n) t ≡ loadedBand n t
-unfolding loaded
-loaded-at n t h = table-at (loadedBand n) 17 t h

@@ -1,12 +1,9 @@
 -- Layers that are all windowed keep the laws of the model, given that their rows are local.
 -- Assumes nothing.
-use Prim.Native.Nat.{ℕ, zero, suc, _<_}
-use mathlib.Core.Path.{_≡_, refl}
+use Prim.Native.Nat.{ℕ, suc, _<_}
+use mathlib.Core.Path.{refl}
 use mathlib.Core.Logic.{inl, inr, ⊎-elim}
 use native.Mathlib.Omega.{arith}
-use Rattle.bands.specs.declared.band.Band.{Band}
-use Rattle.bands.specs.Within.{In}
-use Rattle.bands.specs.Reach.{reachedBand}
 use Rattle.bands.specs.History.{Laws}
 use Rattle.bands.specs.Windows.{Window, Shape, rowsIn, Sound, windowed, Local}
 use Rattle.bands.proofs.Bands.{cover-left, cover-right, cover-least}

@@ -9,7 +9,7 @@ use lib.Seq.{sets}
 use Rattle.bands.specs.declared.state.State.{State}
 use Rattle.bands.specs.declared.state.Tensors.{Tensors}
 use Rattle.bands.specs.State.{bandOf, rowsOf, allEmpty, loaded, changed, replaced}
-use Rattle.bands.specs.History.{Model, grownOf, whole}
+use Rattle.bands.specs.History.{Model, grownOf}
 use Rattle.bands.specs.Area.{Layout, place, Room, runArea}
 
 module _ (L : Model (List ℕ)) (Y : Layout) where

@@ -2,7 +2,7 @@
 -- the rows from i × stride − before to i × stride − before + kernel − 1 of its input, a full layer with before 0, the input's rows for
 -- its kernel, stride 1 and one row, an add with before 0, kernel 1 and stride 1.
 -- Assumes nothing.
-use Prim.Native.Nat.{ℕ, zero, suc, _+_, _-_, _*_}
+use Prim.Native.Nat.{ℕ, _+_, _-_, _*_}
 use mathlib.Core.Bool.{Bool, _&&_}
 use lib.Dec.{leb}
 use Rattle.bands.specs.declared.band.Band.{Band}

@@ -84,7 +84,11 @@ pub fn state_fault(s: State, n: Tensors) -> u8
     let mut t: usize = 0;
     while t < 17 {
         let b = bands[t];
-        let fine = if t <= count { is_fair(rows[t], b) } else { is_absent(b) };
+        let fine = if t <= count {
+            is_fair(rows[t], b)
+        } else {
+            is_absent(b)
+        };
         if !fine {
             return 5;
         }
@@ -141,5 +145,12 @@ pub fn after_replace(s: State, k: usize, rows: u16) -> State
     requires { ⌜ k < 17 ⌝ }
     ensures { λ r. ⌜ r ≡ replaced s k rows ⌝ }
 {
-    with_band(s, k, Band { first: 0, end: rows })
+    with_band(
+        s,
+        k,
+        Band {
+            first: 0,
+            end: rows,
+        },
+    )
 }

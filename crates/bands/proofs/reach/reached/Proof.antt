@@ -3,65 +3,46 @@ use Prim.Native.Nat.{_+_, _-_}
 use mathlib.Core.Path.{sym}
 use native.Mathlib.Omega.{arith}
 use native.Mathlib.Nat.{div-le-self}
-use borrow.Author.Tests.{lt-ltb, le-ltb}
-use Rattle.bands.proofs.Reached.{divided, reached-divided, reached-empty}
+use Rattle.bands.proofs.Reached.{some-reached, none-reached, reached-empty}
 use borrow.Author.Needs.{needs}
 use Rattle.bands.proofs.reach.reached.Statement.{statement}
 use Rattle.bands.proofs.reach.reached.Tie as tie
-use Rattle.bands.proofs.reach.reached.Reads as reads
-use Rattle.bands.proofs.reach.reached.Lts as lts
-use Rattle.bands.proofs.band.smaller.Reads as smaller-reads
-use Rattle.bands.proofs.reach.less.Reads as less-reads
 
--- src/reach.rt:36:26
 add-less : tie.Need-add-less
 add-less c = search needs
 
--- src/reach.rt:36:26
 add-less-2 : tie.Need-add-less-2
 add-less-2 c = search needs
 
--- src/reach.rt:36:21
 less-requires : tie.Need-less-requires
 less-requires c κs = search needs
 
--- src/reach.rt:36:21
 div-first : tie.Need-div-first
 div-first c = search needs
 
--- src/reach.rt:37:36
 add-smaller : tie.Need-add-smaller
 add-smaller c = search needs
 
--- src/reach.rt:37:36
 sub-smaller : tie.Need-sub-smaller
 sub-smaller c = search needs
 
--- src/reach.rt:37:35
 div-smaller : tie.Need-div-smaller
 div-smaller c = search needs
 
--- src/reach.rt:37:35
 add-smaller-2 : tie.Need-add-smaller-2
 add-smaller-2 c = record { fits = omega (arith, div-le-self (c .before .before .before .before .before .before .before .before .before .before .args .b .end + c .before .before .before .before .before .before .before .before .before .before .args .y .before - 1) (c .before .before .before .before .before .before .before .before .before .before .args .y .stride)) }
 
--- src/reach.rt:37:13
 smaller-requires : tie.Need-smaller-requires
 smaller-requires c κs = search needs
 
--- src/reach.rt:39:13
 returns : tie.Need-returns
-unfolding divided
 returns c =
-    rw (reached-divided (c .before .before .before .before .before .before .before .before .before .before .before .before .args .b) (c .before .before .before .before .before .before .before .before .before .before .before .before .args .y) (c .before .before .before .before .before .before .before .before .before .before .before .before .pre .2) (c .before .before .before .before .before .before .before .before .before .before .before .before .pre .3), lt-ltb _ _ (c .before .before .before .before .before .before .before .before .before .before .if1 .taken), ← (c .before .before .before .before .before .before .less .ensures), ← (c .before .smaller .ensures), lt-ltb _ _ (c .if2 .taken))
+    some-reached (c .before .before .before .before .before .before .before .before .before .before .before .before .args .b) (c .before .before .before .before .before .before .before .before .before .before .before .before .args .y) (c .before .before .before .before .before .before .before .before .before .before .before .before .pre .2) (c .before .before .before .before .before .before .before .before .before .before .before .before .pre .3) (c .before .before .before .before .before .before .less .result) (c .before .smaller .result) (c .before .before .before .before .before .before .before .before .before .before .if1 .taken) (c .before .before .before .before .before .before .less .ensures) (c .before .smaller .ensures) (c .if2 .taken)
 
--- src/reach.rt:31:1
 returns-2 : tie.Need-returns-2
-unfolding divided
 returns-2 c =
-    rw (reached-divided (c .before .before .before .before .before .before .before .before .before .before .before .before .args .b) (c .before .before .before .before .before .before .before .before .before .before .before .before .args .y) (c .before .before .before .before .before .before .before .before .before .before .before .before .pre .2) (c .before .before .before .before .before .before .before .before .before .before .before .before .pre .3), lt-ltb _ _ (c .before .before .before .before .before .before .before .before .before .before .if1 .taken), ← (c .before .before .before .before .before .before .less .ensures), ← (c .before .smaller .ensures), le-ltb _ _ (c .if2 .left))
+    none-reached (c .before .before .before .before .before .before .before .before .before .before .before .before .args .b) (c .before .before .before .before .before .before .before .before .before .before .before .before .args .y) (c .before .before .before .before .before .before .before .before .before .before .before .before .pre .2) (c .before .before .before .before .before .before .before .before .before .before .before .before .pre .3) (c .before .before .before .before .before .before .less .result) (c .before .smaller .result) (c .before .before .before .before .before .before .before .before .before .before .if1 .taken) (c .before .before .before .before .before .before .less .ensures) (c .before .smaller .ensures) (c .if2 .left)
 
--- src/reach.rt:31:1
 returns-3 : tie.Need-returns-3
 returns-3 c = sym (reached-empty (c .before .before .args .b) (c .before .before .args .y) (c .if1 .left))
 

@@ -7,11 +7,10 @@ use native.Mathlib.Omega.{arith}
 use borrow.Author.Needs.{needs}
 use borrow.Author.Tests.{le-leb, lt-leb}
 use Rattle.bands.specs.State.{table, loaded}
-use Rattle.bands.proofs.States.{loadedBand, filled, fill-store, fill-skip}
+use Rattle.bands.proofs.Table.{filled, fill-store, fill-skip}
+use Rattle.bands.proofs.States.{loadedBand}
 use Rattle.bands.proofs.state.after_load.Statement.{statement}
 use Rattle.bands.proofs.state.after_load.Tie as tie
-use Rattle.bands.proofs.state.after_load.Reads as reads
-use Rattle.bands.proofs.state.after_load.Lts as lts
 
 abbrev Inv-loop : tie.InvT-loop
 Inv-loop rows count bands₀ t₀ bands t = (t ≤ 17) × (bands ≡ filled (loadedBand (record { count = count; rows = rows })) t)
@@ -19,36 +18,28 @@ Inv-loop rows count bands₀ t₀ bands t = (t ≤ 17) × (bands ≡ filled (loa
 abbrev μ-loop : tie.MeasureT-loop
 μ-loop rows count bands₀ t₀ bands t = 17 - t
 
--- src/state.rt:120:5
 loop-holds : tie.Need-loop-holds Inv-loop μ-loop
 unfolding table
 loop-holds c = (search needs, refl)
 
--- src/state.rt:124:22
 mul-t8 : tie.Need-mul-t8 Inv-loop μ-loop
 mul-t8 c = search needs
 
--- src/state.rt:124:22
 array-read-t11 : tie.Need-array-read-t11 Inv-loop μ-loop
 array-read-t11 c = search needs
 
--- src/state.rt:122:13
 mul-bands : tie.Need-mul-bands Inv-loop μ-loop
 mul-bands c = search needs
 
--- src/state.rt:122:13
 array-set-from-bands : tie.Need-array-set-from-bands Inv-loop μ-loop
 array-set-from-bands c = search needs
 
--- src/state.rt:127:9
 add-t : tie.Need-add-t Inv-loop μ-loop
 add-t c = search needs
 
--- src/state.rt:120:5
 loop-less : tie.Need-loop-less Inv-loop μ-loop
 loop-less c = search needs
 
--- src/state.rt:120:5
 loop-again : tie.Need-loop-again Inv-loop μ-loop
 loop-again c = (
   search needs,
@@ -58,7 +49,6 @@ loop-again c = (
       (c .if1 .came),
 )
 
--- src/state.rt:113:1
 returns : tie.Need-returns Inv-loop μ-loop
 unfolding loaded
 returns c =

@@ -13,8 +13,6 @@ use Rattle.bands.specs.State.{bandOf, clean}
 use Rattle.bands.proofs.Choice.{every-more, every-not}
 use Rattle.bands.proofs.state.clean.Statement.{statement}
 use Rattle.bands.proofs.state.clean.Tie as tie
-use Rattle.bands.proofs.state.clean.Reads as reads
-use Rattle.bands.proofs.state.clean.Lts as lts
 
 abbrev Inv-loop : tie.InvT-loop
 Inv-loop bands t₀ t = (t ≤ 17) × (every t (λ k. isEmpty (getD bands k none)) ≡ true)
@@ -22,38 +20,30 @@ Inv-loop bands t₀ t = (t ≤ 17) × (every t (λ k. isEmpty (getD bands k none
 abbrev μ-loop : tie.MeasureT-loop
 μ-loop bands t₀ t = 17 - t
 
--- src/state.rt:102:5
 loop-holds : tie.Need-loop-holds Inv-loop μ-loop
 unfolding every
 loop-holds c = (search needs, refl)
 
--- src/state.rt:103:17
 mul-b : tie.Need-mul-b Inv-loop μ-loop
 mul-b c = search needs
 
--- src/state.rt:103:17
 array-copy-out-b : tie.Need-array-copy-out-b Inv-loop μ-loop
 array-copy-out-b c = search needs
 
--- src/state.rt:105:13
 returns : tie.Need-returns Inv-loop μ-loop
 unfolding clean
 returns c = sym (every-not (λ k. isEmpty (bandOf (c .before .before .before .before .before .before .args .s) k)) 17 (c .before .before .before .before .loop .t) (c .before .before .before .loop-test .taken) (lt-leb _ _ (c .if1 .taken)))
 
--- src/state.rt:107:9
 add-t : tie.Need-add-t Inv-loop μ-loop
 add-t c = search needs
 
--- src/state.rt:102:5
 loop-less : tie.Need-loop-less Inv-loop μ-loop
 loop-less c = search needs
 
--- src/state.rt:102:5
 loop-again : tie.Need-loop-again Inv-loop μ-loop
 loop-again c =
     (search needs, rw add-one (every-more (λ k. isEmpty (bandOf (c .before .before .before .before .before .before .args .s) k)) (c .before .before .before .before .loop .t) (c .before .before .before .before .loop .inv .1) (le-leb _ _ (c .if1 .left))))
 
--- src/state.rt:97:1
 returns-2 : tie.Need-returns-2 Inv-loop μ-loop
 unfolding clean
 returns-2 c =

@@ -2,14 +2,10 @@
 use borrow.Author.Tests.{eq-eqb, ne-eqb}
 use Rattle.bands.proofs.state.is_absent.Statement.{statement}
 use Rattle.bands.proofs.state.is_absent.Tie as tie
-use Rattle.bands.proofs.state.is_absent.Reads as reads
-use Rattle.bands.proofs.state.is_absent.Lts as lts
 
--- src/state.rt:72:9
 returns : tie.Need-returns
 returns c = rw (eq-eqb _ _ (c .before .if1 .taken))
 
--- src/state.rt:68:1
 returns-2 : tie.Need-returns-2
 returns-2 c = rw (ne-eqb _ _ (c .if1 .left))
 

@@ -13,10 +13,6 @@ use Rattle.bands.proofs.Choice.{every-more}
 use Rattle.bands.proofs.States.{tested, refused}
 use Rattle.bands.proofs.state.state_fault.Statement.{statement}
 use Rattle.bands.proofs.state.state_fault.Tie as tie
-use Rattle.bands.proofs.state.state_fault.Reads as reads
-use Rattle.bands.proofs.state.state_fault.Lts as lts
-use Rattle.bands.proofs.state.is_absent.Reads as is-absent-reads
-use Rattle.bands.proofs.state.is_fair.Reads as is-fair-reads
 
 abbrev Inv-loop : tie.InvT-loop
 Inv-loop bands rows count t₀ t = (t ≤ 17) × (every t (fairAt (record { bands = bands }) (record { count = count; rows = rows })) ≡ true)
@@ -24,32 +20,25 @@ Inv-loop bands rows count t₀ t = (t ≤ 17) × (every t (fairAt (record { band
 abbrev μ-loop : tie.MeasureT-loop
 μ-loop bands rows count t₀ t = 17 - t
 
--- src/state.rt:85:5
 loop-holds : tie.Need-loop-holds Inv-loop μ-loop
 unfolding every
 loop-holds c = (search needs, refl)
 
--- src/state.rt:86:17
 mul-b : tie.Need-mul-b Inv-loop μ-loop
 mul-b c = search needs
 
--- src/state.rt:86:17
 array-copy-out-b : tie.Need-array-copy-out-b Inv-loop μ-loop
 array-copy-out-b c = search needs
 
--- src/state.rt:87:44
 mul-is-fair : tie.Need-mul-is-fair Inv-loop μ-loop
 mul-is-fair c = search needs
 
--- src/state.rt:87:44
 array-read-is-fair : tie.Need-array-read-is-fair Inv-loop μ-loop
 array-read-is-fair c = search needs
 
--- src/state.rt:87:36
 is-fair-requires : tie.Need-is-fair-requires Inv-loop μ-loop
 is-fair-requires c κs = search needs
 
--- src/state.rt:87:65
 is-absent-requires : tie.Need-is-absent-requires Inv-loop μ-loop
 is-absent-requires c κs = search needs
 
@@ -59,26 +48,21 @@ fine-is c =
     tested (c .before .before .before .before .before .before .args .s) (c .before .before .before .before .before .before .args .n) (c .before .before .before .loop .t) (c .if1 .fine)
     (⊎-elim (λ w. inl (w .0 .taken, w .2 ∙ w .1 .ensures)) (λ w. inr (w .0 .left, w .2 ∙ w .1 .ensures)) (c .if1 .came))
 
--- src/state.rt:89:13
 returns : tie.Need-returns Inv-loop μ-loop
 returns c = sym (refused (c .before .before .before .before .before .before .before .args .s) (c .before .before .before .before .before .before .before .args .n) (c .before .before .before .before .loop .t) (c .before .before .before .loop-test .taken) (sym (fine-is (c .before)) ∙ not-true _ (c .if2 .taken)))
 
--- src/state.rt:91:9
 add-t : tie.Need-add-t Inv-loop μ-loop
 add-t c = search needs
 
--- src/state.rt:85:5
 loop-less : tie.Need-loop-less Inv-loop μ-loop
 loop-less c = search needs
 
--- src/state.rt:85:5
 loop-again : tie.Need-loop-again Inv-loop μ-loop
 loop-again c = (
   search needs,
   rw add-one (every-more (fairAt (c .before .before .before .before .before .before .before .args .s) (c .before .before .before .before .before .before .before .args .n)) (c .before .before .before .before .loop .t) (c .before .before .before .before .loop .inv .1) (sym (fine-is (c .before)) ∙ not-false _ (c .if2 .left))),
 )
 
--- src/state.rt:78:1
 returns-2 : tie.Need-returns-2 Inv-loop μ-loop
 unfolding stateFault
 returns-2 c =
