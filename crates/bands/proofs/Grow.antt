@@ -43,11 +43,8 @@ module _ (P : ℕ → Band → Type 0) (links : ℕ → Link) (n : ℕ) where
   unfolding grown growOne
   grow-each both one s h zero hm t = h t
   grow-each both one s h (suc m) hm t =
-      let g = grown s links m in
       let before = grow-each both one s h m (omega arith) in
-      with-each P g (suc m) (grownBand g (links m) m)
-      (both m _ _ hm (before (suc m)) (both m _ _ hm (one m (bandOf g m) hm) (one m (bandOf g (links m .other)) hm)))
-      t (before t)
+      with-each P (grown s links m) (suc m) _ (both m _ _ hm (before (suc m)) (both m _ _ hm (one m _ hm) (one m _ hm))) t (before t)
 
 -- bands stay below a bound of the tensors' rows
 pub grow-small : (k : ℕ) (links : ℕ → Link) (n : ℕ) → ((m : ℕ) → m < n → links m .rows ≤ k)

@@ -9,7 +9,7 @@ use native.Mathlib.Omega.{arith}
 use native.Mathlib.Decide.{decLt, decLe}
 use borrow.Author.Tests.{lt-ltb, le-ltb, le-leb, lt-leb}
 use Rattle.bands.specs.History.{Laws}
-use Rattle.bands.specs.Windows.{Shape, rowsIn, Sound}
+use Rattle.bands.specs.Windows.{Window, Shape, rowsIn, Sound}
 use Rattle.bands.specs.Kinds.{cell, gather, Kinds, zpAt, windowAt, rowAt, modelOf}
 use Rattle.bands.proofs.Windows.{windowed-laws}
 
@@ -36,16 +36,17 @@ module _ {Row : Type 0} where
 module _ {Row : Type 0} (K : Kinds Row) (G : Shape) where
   -- two stores that agree on the rows of a window have the same window
   window-local : (m t i : ℕ) (S S′ : ℕ → ℕ → Row)
-      → ((r : ℕ) → i * G .links m .stride ≤ r + G .links m .before → r + G .links m .before < i * G .links m .stride + G .links m .kernel → r < rowsIn G t → S t r ≡ S′ t r)
+      → ((r : ℕ) → Window (G .links m) i r → r < rowsIn G t → S t r ≡ S′ t r)
       → windowAt K G m (S t) (rowsIn G t) i ≡ windowAt K G m (S′ t) (rowsIn G t) i
-  window-local m t i S S′ h = gather-local (G .links m .before) (rowsIn G t) (S t) (S′ t) (i * G .links m .stride) (G .links m .kernel) h
+  window-local m t i S S′ h =
+      gather-local (G .links m .before) (rowsIn G t) (S t) (S′ t) (i * G .links m .stride) (G .links m .kernel) (λ r x y hr. h r (x, y) hr)
 
   pub model-laws : Sound G → Laws (modelOf K G)
   unfolding zpAt rowAt
   model-laws s = windowed-laws Row (K .Net) (K .Par) (K .Zp) G (K .par) (zpAt K G) (rowAt K G) s (record {
     row-local = λ N N′ S S′ m i hm hi p z z′ same.
-        let a = window-local m m i S S′ (λ r x y hr. same m r (inl refl, (x, y)) hr) in
-        let b = window-local m (G .links m .other) i S S′ (λ r x y hr. same (G .links m .other) r (inr refl, (x, y)) hr) in
+        let a = window-local m m i S S′ (λ r x hr. same m r (inl refl, x) hr) in
+        let b = window-local m (G .links m .other) i S S′ (λ r x hr. same (G .links m .other) r (inr refl, x) hr) in
         cc;
     zp-local = λ N N′ m hm p z z′. cc;
   })
