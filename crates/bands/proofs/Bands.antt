@@ -3,13 +3,12 @@
 use Prim.Native.Nat.{ℕ, zero, suc, _≤_, _<_, _-_, min, max}
 use mathlib.Core.Path.{_≡_, refl, sym, _∙_}
 use mathlib.Core.Logic.{_⊎_, inl, inr}
-use mathlib.Core.Bool.{Bool, true, false, and-eq-true-iff}
+use mathlib.Core.Bool.{Bool, true, false, and-eq-true-iff, cond}
 use native.Mathlib.Omega.{arith}
 use native.Mathlib.Decide.{ℕ-discrete, decLe, decLt}
 use lib.Dec.{ltb, leb}
 use borrow.Author.Tests.{leb-true, leb-false, ltb-true, lt-ltb, le-ltb, le-leb, lt-leb}
 use Rattle.bands.specs.declared.band.Band.{Band}
-use Rattle.bands.specs.Choice.{pick}
 use Rattle.bands.specs.Band.{band, none, inBand, isEmpty, cover, span}
 use Rattle.bands.specs.Within.{In, Inside, Empty}
 
@@ -76,7 +75,7 @@ unfolding cover
 cover-cases P a b p q r = go (isEmpty a) (isEmpty b) refl refl
   where
     go : (s t : Bool) → isEmpty a ≡ s → isEmpty b ≡ t
-        → P (pick s b (pick t a (band (min (a .first) (b .first)) (max (a .end) (b .end)))))
+        → P (cond s b (cond t a (band (min (a .first) (b .first)) (max (a .end) (b .end)))))
     go true true x y = p (leb-true _ _ x)
     go true false x y = p (leb-true _ _ x)
     go false true x y = q (leb-false _ _ x) (leb-true _ _ y)
@@ -137,7 +136,7 @@ module _ (p : ℕ → Bool) where
   span-least zero c h = λ i w. omega arith
   span-least (suc n) c h = cover-least _ _ c (span-least n c (λ i k. h i (omega arith))) (go (p n) refl)
     where
-      go : (t : Bool) → p n ≡ t → Inside (pick t (band n (suc n)) none) c
+      go : (t : Bool) → p n ≡ t → Inside (cond t (band n (suc n)) none) c
       go true x i w = let e : i ≡ n = omega arith in rw e (h n (omega arith) x)
       go false x i w = omega arith
 
@@ -146,7 +145,7 @@ module _ (p : ℕ → Bool) where
   span-canon zero = inr refl
   span-canon (suc n) = cover-canon _ _ (span-canon n) (go (p n))
     where
-      go : (t : Bool) → Canon (pick t (band n (suc n)) none)
+      go : (t : Bool) → Canon (cond t (band n (suc n)) none)
       go true = inl (omega arith)
       go false = inr refl
 
@@ -155,6 +154,6 @@ module _ (p : ℕ → Bool) where
   span-below zero = omega arith
   span-below (suc n) = cover-below (suc n) _ _ (omega (arith, span-below n)) (go (p n))
     where
-      go : (t : Bool) → pick t (band n (suc n)) none .end ≤ suc n
+      go : (t : Bool) → cond t (band n (suc n)) none .end ≤ suc n
       go true = omega arith
       go false = omega arith

@@ -1,5 +1,6 @@
 -- What `specs/History` states is proved: `update-meets`, `fresh-meets`, `ran-once`, `kept`, `clean-is-fresh`, `read-is-fresh`.
 -- Assumes nothing.
+use mathlib.Core.Bool.{cond}
 use Prim.Native.Nat.{ℕ, zero, suc, _≤_, _<_}
 use mathlib.Core.Path.{_≡_, refl, sym, ap, _∙_}
 use mathlib.Core.Logic.{_⊎_, inl, inr, _≢_}
@@ -7,7 +8,6 @@ use native.Mathlib.Omega.{arith}
 use native.Mathlib.Decide.{ℕ-discrete}
 use borrow.Author.Tests.{eq-eqb, ne-eqb}
 use Rattle.bands.specs.declared.band.Band.{Band}
-use Rattle.bands.specs.Choice.{pick}
 use Rattle.bands.specs.Band.{none, inBand, cover}
 use Rattle.bands.specs.Within.{In, Inside}
 use Rattle.bands.specs.History.{Bands, Model, Laws, put}
@@ -123,7 +123,7 @@ module _ {Row : Type 0} (L : Model Row) (law : Laws L) where
         let ht : t ≤ m = law .reads-before m i t r hm hi x in
         ap (λ f. f r) (run-keeps m t ht ∙ sym (run-keeps (L .n) t (omega arith))))
 
-    run-at : (m i : ℕ) → runTo L N C (suc m) S (suc m) i ≡ pick (inBand (C (suc m)) i) (L .rowOf N m (runTo L N C m S) i) (runTo L N C m S (suc m) i)
+    run-at : (m i : ℕ) → runTo L N C (suc m) S (suc m) i ≡ cond (inBand (C (suc m)) i) (L .rowOf N m (runTo L N C m S) i) (runTo L N C m S (suc m) i)
     unfolding runTo redo
     run-at m i = ap (λ (f : ℕ → Row). f i) (put-same (runTo L N C m S) (suc m) _)
 

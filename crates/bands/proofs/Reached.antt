@@ -4,14 +4,13 @@
 use Prim.Native.Nat.{ℕ, suc, _≤_, _<_, _+_, _-_, _*_, _/_, min, max}
 use mathlib.Core.Path.{_≡_, refl}
 use mathlib.Core.Logic.{inl, inr}
-use mathlib.Core.Bool.{Bool, true, false, and-eq-true-iff}
+use mathlib.Core.Bool.{Bool, true, false, and-eq-true-iff, cond}
 use native.Mathlib.Nat.{div-lt-iff-lt-mul, le-div-iff-mul-le}
 use native.Mathlib.Omega.{arith}
 use lib.Dec.{ltb, leb}
 use borrow.Author.Tests.{leb-true, ltb-true, ltb-false, le-leb, lt-ltb, le-ltb}
 use Rattle.bands.specs.declared.band.Band.{Band}
 use Rattle.bands.specs.declared.reach.Link.{Link}
-use Rattle.bands.specs.Choice.{pick}
 use Rattle.bands.specs.Band.{band, none, inBand}
 use Rattle.bands.specs.Within.{In, Inside, Empty}
 use Rattle.bands.specs.Reach.{held, isReached, reachedBand}
@@ -73,33 +72,33 @@ module _ (b : Band) (y : Link) where
 -- ---- the formula of the code
 
 abbrev pub orNone : ℕ → ℕ → Band
-orNone f e = pick (ltb f e) (band f e) none
+orNone f e = cond (ltb f e) (band f e) none
 
 -- first and end by two floor divisions; none where the band is empty, or reaches no row
 unfoldable pub divided : Band → Link → Band
 divided b y =
-    pick (ltb (b .first) (b .end))
+    cond (ltb (b .first) (b .end))
     (orNone ((b .first + y .before + y .stride - y .kernel) / y .stride) (min (y .rows) ((b .end + y .before - 1) / y .stride + 1)))
     none
 
 orNone-in : (f e i : ℕ) → In i (band f e) → In i (orNone f e)
 orNone-in f e i w = go (ltb f e) refl
   where
-    go : (t : Bool) → ltb f e ≡ t → In i (pick t (band f e) none)
+    go : (t : Bool) → ltb f e ≡ t → In i (cond t (band f e) none)
     go true x = w
     go false x = let y : e ≤ f = ltb-false _ _ x in omega arith
 
 in-orNone : (f e i : ℕ) → In i (orNone f e) → In i (band f e)
 in-orNone f e i w = go (ltb f e) w
   where
-    go : (t : Bool) → In i (pick t (band f e) none) → In i (band f e)
+    go : (t : Bool) → In i (cond t (band f e) none) → In i (band f e)
     go true x = x
     go false x = omega arith
 
 orNone-canon : (f e : ℕ) → Canon (orNone f e)
 orNone-canon f e = go (ltb f e) refl
   where
-    go : (t : Bool) → ltb f e ≡ t → Canon (pick t (band f e) none)
+    go : (t : Bool) → ltb f e ≡ t → Canon (cond t (band f e) none)
     go true x = inl (ltb-true _ _ x)
     go false x = inr refl
 
@@ -115,7 +114,7 @@ module _ (b : Band) (y : Link) (hk : 0 < y .kernel) (hs : 0 < y .stride) where
   unfolding divided
   divided-canon = go (ltb (b .first) (b .end))
     where
-      go : (t : Bool) → Canon (pick t (orNone F E) none)
+      go : (t : Bool) → Canon (cond t (orNone F E) none)
       go true = orNone-canon F E
       go false = inr refl
 
@@ -129,7 +128,7 @@ module _ (b : Band) (y : Link) (hk : 0 < y .kernel) (hs : 0 < y .stride) where
       up : i ≤ (b .end + y .before - 1) / y .stride
       up = le-div-iff-mul-le hs .1 (omega arith)
 
-      go : (t : Bool) → ltb (b .first) (b .end) ≡ t → In i (pick t (orNone F E) none)
+      go : (t : Bool) → ltb (b .first) (b .end) ≡ t → In i (cond t (orNone F E) none)
       go true x = orNone-in F E i (omega (arith, lo, up))
       go false x = let z : b .end ≤ b .first = ltb-false _ _ x in omega arith
 
@@ -137,7 +136,7 @@ module _ (b : Band) (y : Link) (hk : 0 < y .kernel) (hs : 0 < y .stride) where
   unfolding divided
   in-divided i w = go (ltb (b .first) (b .end)) refl w
     where
-      go : (t : Bool) → ltb (b .first) (b .end) ≡ t → In i (pick t (orNone F E) none) → (i < y .rows) × Hit b y i
+      go : (t : Bool) → ltb (b .first) (b .end) ≡ t → In i (cond t (orNone F E) none) → (i < y .rows) × Hit b y i
       go true x v =
           let z : b .first < b .end = ltb-true _ _ x in
           let u : In i (band F E) = in-orNone F E i v in
@@ -198,13 +197,13 @@ abbrev pub addLink : ℕ → ℕ → Link
 addLink other rows = record { other = other; before = 0; kernel = 1; stride = 1; rows = rows }
 
 -- a full layer's row is reached if the band, which lies within the input's rows, is not empty
-pub full-reach : (b : Band) (other rows : ℕ) → b .end ≤ rows → reachedBand b (fullLink other rows) ≡ pick (ltb (b .first) (b .end)) (band 0 1) none
+pub full-reach : (b : Band) (other rows : ℕ) → b .end ≤ rows → reachedBand b (fullLink other rows) ≡ cond (ltb (b .first) (b .end)) (band 0 1) none
 full-reach b other rows h = go (ltb (b .first) (b .end)) refl
   where
     y : Link
     y = fullLink other rows
 
-    go : (t : Bool) → ltb (b .first) (b .end) ≡ t → reachedBand b y ≡ pick t (band 0 1) none
+    go : (t : Bool) → ltb (b .first) (b .end) ≡ t → reachedBand b y ≡ cond t (band 0 1) none
     go true x =
         let z : b .first < b .end = ltb-true _ _ x in
         canon-once (reachedBand b y) (band 0 1) (reached-canon b y) (inl (omega arith))

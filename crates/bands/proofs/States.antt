@@ -3,7 +3,7 @@
 use Prim.Native.Nat.{ℕ, zero, suc, _≤_, _<_}
 use mathlib.Core.Path.{_≡_, refl, _∙_}
 use mathlib.Core.Logic.{_⊎_, inl, inr, ⊎-elim}
-use mathlib.Core.Bool.{Bool, true, false, _&&_, _||_, and-eq-true-iff}
+use mathlib.Core.Bool.{Bool, true, false, _&&_, _||_, and-eq-true-iff, cond}
 use native.Mathlib.Omega.{arith}
 use native.Mathlib.Decide.{ℕ-discrete, decLe, decLt}
 use lib.Dec.{leb, ltb, eqb}
@@ -13,7 +13,7 @@ use borrow.Author.Tests.{leb-true, ltb-true, eqb-true, le-leb, lt-leb, lt-ltb}
 use Rattle.bands.specs.declared.band.Band.{Band}
 use Rattle.bands.specs.declared.state.State.{State}
 use Rattle.bands.specs.declared.state.Tensors.{Tensors}
-use Rattle.bands.specs.Choice.{pick, every}
+use Rattle.bands.specs.Choice.{every}
 use Rattle.bands.specs.Band.{band, none, isEmpty, cover}
 use Rattle.bands.specs.State.{bandOf, rowsOf, withBand, allStale, allEmpty, fair, absent, fairAt, stateFault, clean, loaded, changed, replaced}
 use Rattle.bands.proofs.Choice.{every-at, every-all, every-not}
@@ -79,7 +79,7 @@ every-passed : (s : State) (n : Tensors) → stateFault s n ≡ 0 → every 17 (
 unfolding stateFault
 every-passed s n = go (every 17 (fairAt s n))
   where
-    go : (t : Bool) → _≡_ {A = ℕ} (pick t 0 5) 0 → t ≡ true
+    go : (t : Bool) → _≡_ {A = ℕ} (cond t 0 5) 0 → t ≡ true
     go true h = refl
     go false h = absurd (omega arith)
 
@@ -107,7 +107,7 @@ module _ (s : State) (n : Tensors) where
 pub stale-refused : (n : Tensors) → stateFault allStale n ≡ 5
 stale-refused n = refused allStale n 0 (omega arith) (go (leb 0 (n .count)))
   where
-    go : (t : Bool) → pick t (fair (rowsOf n 0) (band 1 0)) (absent (band 1 0)) ≡ false
+    go : (t : Bool) → cond t (fair (rowsOf n 0) (band 1 0)) (absent (band 1 0)) ≡ false
     go true = refl
     go false = refl
 
@@ -115,7 +115,7 @@ stale-refused n = refused allStale n 0 (omega arith) (go (leb 0 (n .count)))
 
 -- the band of tensor t
 abbrev pub loadedBand : Tensors → ℕ → Band
-loadedBand n t = pick (leb t (n .count)) (band 0 (rowsOf n t)) none
+loadedBand n t = cond (leb t (n .count)) (band 0 (rowsOf n t)) none
 
 pub loaded-at : (n : Tensors) (t : ℕ) → t < 17 → bandOf (loaded n) t ≡ loadedBand n t
 unfolding loaded

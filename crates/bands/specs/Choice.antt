@@ -1,12 +1,7 @@
--- One of two, and a test of every number below a bound.
+-- A test of every number below a bound, and of some number.
 -- Assumes nothing.
 use Prim.Native.Nat.{ℕ, zero, suc}
 use mathlib.Core.Bool.{Bool, true, false, _&&_, _||_}
-
--- one of two, by a test
-abbrev pub pick : {A : Type 0} → Bool → A → A → A
-pick true a b = a
-pick false a b = b
 
 -- the test holds at each number below n
 unfoldable pub every : ℕ → (ℕ → Bool) → Bool

@@ -2,12 +2,12 @@
 -- what a fresh run is, and what a load and any calls after it lead to.
 -- Tensors are numbered from 0, the picture. Layer m, counted from 0, reads tensor m and tensor `other m` and makes tensor suc m.
 -- Assumes nothing.
+use mathlib.Core.Bool.{cond}
 use Prim.Native.Nat.{ℕ, zero, suc, _≤_, _<_}
 use mathlib.Core.Path.{_≡_}
 use mathlib.Core.Logic.{_≢_}
 use lib.Dec.{eqb}
 use Rattle.bands.specs.declared.band.Band.{Band}
-use Rattle.bands.specs.Choice.{pick}
 use Rattle.bands.specs.Band.{none, band, inBand, cover}
 use Rattle.bands.specs.Within.{In, Inside}
 
@@ -58,7 +58,7 @@ pub record Laws {Row : Type 0} (L : Model Row) : Type 0 where
 
 -- f with v at k
 unfoldable pub put : {A : Type 0} → (ℕ → A) → ℕ → A → ℕ → A
-put f k v t = pick (eqb t k) v (f t)
+put f k v t = cond (eqb t k) v (f t)
 
 module _ {Row : Type 0} (L : Model Row) where
   abbrev pub Store : Type 0
@@ -79,7 +79,7 @@ module _ {Row : Type 0} (L : Model Row) where
 
   -- one layer's step: the rows in its band are recomputed from what is stored
   unfoldable pub redo : L .Net → ℕ → Band → Store → Store
-  redo N m b S = put S (suc m) (λ i. pick (inBand b i) (L .rowOf N m S i) (S (suc m) i))
+  redo N m b S = put S (suc m) (λ i. cond (inBand b i) (L .rowOf N m S i) (S (suc m) i))
 
   -- the first m layers, in order, each at the rows of its band
   unfoldable pub runTo : L .Net → Bands → ℕ → Store → Store

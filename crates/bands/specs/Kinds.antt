@@ -4,16 +4,15 @@
 use Prim.Native.Nat.{ℕ, zero, suc, _-_, _*_}
 use mathlib.Core.List.{List, [], _∷_}
 use mathlib.Core.Option.{Option, some, none as missing}
-use mathlib.Core.Bool.{_&&_}
+use mathlib.Core.Bool.{_&&_, cond}
 use lib.Dec.{ltb, leb}
-use Rattle.bands.specs.Choice.{pick}
 use Rattle.bands.specs.Windows.{Shape, rowsIn, windowed}
 use Rattle.bands.specs.History.{Model}
 
 module _ {Row : Type 0} where
   -- the row at place p of the padded tensor T: row p − before, if the tensor has it
   unfoldable pub cell : ℕ → ℕ → (ℕ → Row) → ℕ → Option Row
-  cell before rows T p = pick (leb before p && ltb (p - before) rows) (some (T (p - before))) missing
+  cell before rows T p = cond (leb before p && ltb (p - before) rows) (some (T (p - before))) missing
 
   -- k rows of the padded tensor from place p on
   unfoldable pub gather : ℕ → ℕ → (ℕ → Row) → ℕ → ℕ → List (Option Row)

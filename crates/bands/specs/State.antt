@@ -1,14 +1,14 @@
 -- The state: a band for each of tensors 0 to 16. Test 5, and the state that each call leaves.
 -- Assumes nothing.
 use Prim.Native.Nat.{ℕ, zero, suc}
-use mathlib.Core.Bool.{Bool, _&&_, _||_}
+use mathlib.Core.Bool.{Bool, _&&_, _||_, cond}
 use mathlib.Core.List.{List, [], _∷_, _++_}
 use lib.Dec.{leb, ltb, eqb}
 use lib.ListN.{getD, set, replicate}
 use Rattle.bands.specs.declared.band.Band.{Band}
 use Rattle.bands.specs.declared.state.State.{State}
 use Rattle.bands.specs.declared.state.Tensors.{Tensors}
-use Rattle.bands.specs.Choice.{pick, every}
+use Rattle.bands.specs.Choice.{every}
 use Rattle.bands.specs.Band.{band, none, isEmpty, cover}
 
 -- the band of tensor t
@@ -41,11 +41,11 @@ absent b = eqb (b .first) 0 && eqb (b .end) 0
 
 -- the test of one tensor
 abbrev pub fairAt : State → Tensors → ℕ → Bool
-fairAt s n t = pick (leb t (n .count)) (fair (rowsOf n t) (bandOf s t)) (absent (bandOf s t))
+fairAt s n t = cond (leb t (n .count)) (fair (rowsOf n t) (bandOf s t)) (absent (bandOf s t))
 
 -- test 5: 0, or its number
 unfoldable pub stateFault : State → Tensors → ℕ
-stateFault s n = pick (every 17 (fairAt s n)) 0 5
+stateFault s n = cond (every 17 (fairAt s n)) 0 5
 
 -- no band has a row: what test 8 asks of a reading
 unfoldable pub clean : State → Bool
@@ -58,7 +58,7 @@ table (suc k) f = table k f ++ (f k ∷ [])
 
 -- load: every existing tensor's band covers all its rows, the others are empty
 unfoldable pub loaded : Tensors → State
-loaded n = record { bands = table 17 (λ t. pick (leb t (n .count)) (band 0 (rowsOf n t)) none) }
+loaded n = record { bands = table 17 (λ t. cond (leb t (n .count)) (band 0 (rowsOf n t)) none) }
 
 -- change rows: band 0 becomes the smallest band covering the old one and the new rows
 abbrev pub changed : State → ℕ → ℕ → State
