@@ -1,0 +1,85 @@
+-- The grown bands as the code keeps them: one turn of its loop, that they stay small and within their tensors, and that they are the model's.
+-- Assumes nothing.
+use Prim.Native.Nat.{ℕ, zero, suc, _≤_, _<_, _+_}
+use mathlib.Core.Path.{_≡_, refl, sym, ap, _∙_, fun-ext}
+use native.Mathlib.Omega.{arith}
+use native.Mathlib.Numerals.{add-one}
+use native.Mathlib.Decide.{ℕ-discrete}
+use lib.ListN.{length, length-set}
+use lib.Seq.{getD-set-same, getD-set-other}
+use Rattle.bands.specs.declared.band.Band.{Band}
+use Rattle.bands.specs.declared.state.State.{State}
+use Rattle.bands.specs.declared.reach.Link.{Link}
+use Rattle.bands.specs.Band.{none, cover}
+use Rattle.bands.specs.State.{bandOf, withBand}
+use Rattle.bands.specs.Reach.{reachedBand}
+use Rattle.bands.specs.Grow.{grownBand, growOne, grown}
+use Rattle.bands.specs.History.{put, growStep, growTo, grownOf}
+use Rattle.bands.specs.Windows.{Shape, rowsIn, windowed}
+use Rattle.bands.proofs.Bands.{cover-below}
+use Rattle.bands.proofs.Reached.{reached-within, reached-canon}
+use Rattle.bands.proofs.States.{Fair, canon-fair, cover-fair, with-each}
+use Rattle.bands.proofs.History.{put-same, put-other, grow-keeps}
+
+-- what the code does for a layer is one layer's step
+pub grow-turn : (s r : State) (y : Link) (m : ℕ) (a b o p q z g : Band)
+    → a ≡ bandOf s m → b ≡ bandOf s (y .other) → o ≡ bandOf s (m + 1)
+    → p ≡ reachedBand a y → q ≡ reachedBand b y → z ≡ cover p q → g ≡ cover o z → r ≡ withBand s (m + 1) g
+    → r ≡ growOne s y m
+unfolding growOne
+grow-turn s r y m a b o p q z g ha hb ho hp hq hz hg h = h ∙ rw (hg, hz, hp, hq, ha, hb, ho, add-one m)
+
+pub length-grow : (s : State) (links : ℕ → Link) (m : ℕ) → length (grown s links m .bands) ≡ length (s .bands)
+unfolding grown growOne
+length-grow s links zero = refl
+length-grow s links (suc m) = simp length-set (length-grow s links m)
+
+-- ---- what holds of each band given, of what is reached and of what covers two holds of each grown band
+
+module _ (P : ℕ → Band → Type 0) (links : ℕ → Link) (n : ℕ) where
+  pub grow-each : ((m : ℕ) (a b : Band) → m < n → P (suc m) a → P (suc m) b → P (suc m) (cover a b))
+      → ((m : ℕ) (b : Band) → m < n → P (suc m) (reachedBand b (links m)))
+      → (s : State) → ((t : ℕ) → P t (bandOf s t)) → (m : ℕ) → m ≤ n → (t : ℕ) → P t (bandOf (grown s links m) t)
+  unfolding grown growOne
+  grow-each both one s h zero hm t = h t
+  grow-each both one s h (suc m) hm t =
+      let before = grow-each both one s h m (omega arith) in
+      with-each P (grown s links m) (suc m) _ (both m _ _ hm (before (suc m)) (both m _ _ hm (one m _ hm) (one m _ hm))) t (before t)
+
+-- bands stay below a bound of the tensors' rows
+pub grow-small : (k : ℕ) (links : ℕ → Link) (n : ℕ) → ((m : ℕ) → m < n → links m .rows ≤ k)
+    → (s : State) → ((t : ℕ) → bandOf s t .end ≤ k) → (m : ℕ) → m ≤ n → (t : ℕ) → bandOf (grown s links m) t .end ≤ k
+grow-small k links n small =
+    grow-each (λ t b. b .end ≤ k) links n (λ m a b hm. cover-below k a b) (λ m b hm. omega (arith, reached-within b (links m), small m hm))
+
+-- bands that passed test 5 stay so
+pub grow-good : (G : Shape) (s : State) → ((t : ℕ) → t ≤ G .n → Fair (rowsIn G t) (bandOf s t))
+    → (m : ℕ) → m ≤ G .n → (t : ℕ) → t ≤ G .n → Fair (rowsIn G t) (bandOf (grown s (G .links) m) t)
+grow-good G =
+    grow-each (λ t b. t ≤ G .n → Fair (rowsIn G t) b) (G .links) (G .n)
+    (λ m a b hm p q ht. cover-fair _ a b (p ht) (q ht))
+    (λ m b hm ht. canon-fair _ _ (reached-within b (G .links m)) (reached-canon b (G .links m)))
+
+-- ---- the state's bands are the model's
+
+-- a store to the state is one to the bands
+bands-set : (s : State) (k : ℕ) (b : Band) → k < length (s .bands) → bandOf (withBand s k b) ≡ put (bandOf s) k b
+bands-set s k b hk = fun-ext (λ t.
+    elim (ℕ-discrete t k) [
+      | yes e ↦ rw e (getD-set-same (s .bands) k b none hk ∙ sym (put-same (bandOf s) k b))
+      | no e ↦ getD-set-other (s .bands) k t b none e ∙ sym (put-other (bandOf s) k b t e)
+    ])
+
+module _ (Row Net Par Zp : Type 0) (G : Shape) (par : Net → ℕ → Par) (zp : Net → ℕ → Zp) (rowOf : Net → ℕ → (ℕ → ℕ → Row) → ℕ → Row)
+    (s : State) (room : G .n < length (s .bands)) where
+  pub grow-is : (m : ℕ) → m ≤ G .n → bandOf (grown s (G .links) m) ≡ growTo (windowed Row Net Par Zp G par zp rowOf) m (bandOf s)
+  unfolding grown growOne growTo growStep
+  grow-is zero hm = refl
+  grow-is (suc m) hm =
+      let g = grown s (G .links) m in
+      bands-set g (suc m) (grownBand g (G .links m) m) (omega (arith, length-grow s (G .links) m))
+      ∙ ap (growStep (windowed Row Net Par Zp G par zp rowOf) m) (grow-is m (omega arith))
+
+  -- once the layers up to it are done, a tensor has its grown band
+  pub grown-is : (m t : ℕ) → m ≤ G .n → t ≤ m → bandOf (grown s (G .links) m) t ≡ grownOf (windowed Row Net Par Zp G par zp rowOf) (bandOf s) t
+  grown-is m t hm ht = ap (λ f. f t) (grow-is m hm) ∙ grow-keeps (windowed Row Net Par Zp G par zp rowOf) m t (bandOf s) ht

@@ -1,0 +1,55 @@
+// What a band of a layer's input reaches, and one layer's growth.
+ghost use mathlib.Core.Path.{_≡_};
+ghost use Prim.Native.Nat.{_-_, _≤_, _<_};
+ghost use Rattle.bands.specs.Reach.{reachedBand};
+ghost use Rattle.bands.specs.Grow.{growOne};
+ghost use Rattle.bands.specs.State.{bandOf};
+use crate::band::Band;
+use crate::band::cover;
+use crate::band::smaller;
+use crate::state::State;
+use crate::state::band_of;
+use crate::state::with_band;
+
+// How a layer hangs on its inputs: its second input (its first where it has one), and the rows of its window.
+pub struct Link {
+    pub other: usize,
+    pub before: u16,
+    pub kernel: u16,
+    pub stride: u16,
+    pub rows: u16,
+}
+
+// a less b, or 0.
+fn less(a: u16, b: u16) -> u16
+    ensures { λ r. ⌜ r ≡ a - b ⌝ }
+{
+    if a < b { 0 } else { a - b }
+}
+
+// The smallest band covering the layer's rows that the band b of an input reaches, by two divisions.
+pub fn reached(b: Band, y: Link) -> Band
+    requires { ⌜ (b .end ≤ 16384) × (y .before ≤ 256) × (0 < y .kernel) × (0 < y .stride) × (y .stride ≤ 256) ⌝ }
+    ensures { λ r. ⌜ r ≡ reachedBand b y ⌝ }
+{
+    if b.first < b.end {
+        let first = less(b.first + y.before + y.stride, y.kernel) / y.stride;
+        let end = smaller(y.rows, (b.end + y.before - 1) / y.stride + 1);
+        if first < end {
+            return Band { first, end };
+        }
+    }
+    Band { first: 0, end: 0 }
+}
+
+// The band of layer m's tensor grows by what the bands of its inputs reach.
+pub fn grow_one(s: State, y: Link, m: usize) -> State
+    requires { ⌜ (m < 16) × (y .other ≤ m) × (bandOf s m .end ≤ 16384) × (bandOf s (y .other) .end ≤ 16384) ⌝ }
+    requires { ⌜ (y .before ≤ 256) × (0 < y .kernel) × (0 < y .stride) × (y .stride ≤ 256) ⌝ }
+    ensures { λ r. ⌜ r ≡ growOne s y m ⌝ }
+{
+    let first = reached(band_of(s, m), y);
+    let second = reached(band_of(s, y.other), y);
+    let own = band_of(s, m + 1);
+    with_band(s, m + 1, cover(own, cover(first, second)))
+}
