@@ -2,12 +2,13 @@
 -- Assumes nothing.
 use mathlib.Core.Path.{_≡_, refl, sym, ap, _∙_}
 use mathlib.Core.List.{List, [], _∷_, _++_, append-assoc, append-nil}
-use Prim.Native.Nat.{ℕ, zero, suc, _+_, _*_, _-_, _≤_, _<_}
+use Prim.Native.Nat.{ℕ, zero, suc, _+_, _*_, _≤_, _<_}
 use native.Mathlib.Nat.{add-zero, add-suc, add-assoc, add-sub-of-le, zero-mul, suc-mul, mul-one}
 use native.Mathlib.Numerals.{add-one}
 use native.Mathlib.Omega.{arith}
-use lib.ListN.{length, take, drop, getD, set, replicate, length-append, length-take, length-drop, take-append-drop, replicate-append-replicate}
-use lib.Seq.{set-split, take-suc, take-at, drop-at, take-take, drop-drop, take-add, take-append-le, drop-append-le}
+use lib.ListN.{length, take, drop, getD, set, replicate}
+use lib.ListN.{length-append, length-take, length-drop, take-append-drop, replicate-append-replicate}
+use lib.Seq.{set-split, take-suc, take-at, drop-at, take-take, drop-drop, take-add}
 use Rattle.windows.specs.Lists.{pasted, joined, part}
 
 -- ---- a part of a list
@@ -40,18 +41,31 @@ unfolding pasted
 pasted-length d at s h = simp (length-append, length-take, length-drop) (omega arith)
 
 -- the end of the list, from where the pasted part ends
-pasted-end : (d : List ℕ) (at : ℕ) (s : List ℕ) → at ≤ length d → drop (at + length s) (pasted d at s) ≡ drop (at + length s) d
+pasted-end :
+    (d : List ℕ) (at : ℕ) (s : List ℕ) →
+    at ≤ length d →
+    drop (at + length s) (pasted d at s) ≡ drop (at + length s) d
 unfolding pasted
 pasted-end d at s h = drop-at (take at d ++ s) _ (at + length s) (simp (length-append, length-take) (omega arith))
 
 -- a part that ends before what is pasted is as it was
-pub part-before : (d s : List ℕ) (at from n : ℕ) → from + n ≤ at → at ≤ length d → part (pasted d at s) from n ≡ part d from n
+pub part-before :
+    (d s : List ℕ) (at from n : ℕ) →
+    from + n ≤ at →
+    at ≤ length d →
+    part (pasted d at s) from n ≡ part d from n
 unfolding pasted
 part-before d s at from n h g =
-    rw append-assoc (sym (part-take _ at from n h) ∙ ap (λ (r : List ℕ). part r from n) (take-at (take at d) _ at (rw length-take (omega arith))) ∙ part-take d at from n h)
+    let front = take-at (take at d) (s ++ drop (at + length s) d) at (rw length-take (omega arith)) in
+    rw append-assoc
+    (sym (part-take _ at from n h) ∙ ap (λ (r : List ℕ). part r from n) front ∙ part-take d at from n h)
 
 -- a part that starts after what is pasted is as it was
-pub part-after : (d s : List ℕ) (at from n : ℕ) → at + length s ≤ from → at ≤ length d → part (pasted d at s) from n ≡ part d from n
+pub part-after :
+    (d s : List ℕ) (at from n : ℕ) →
+    at + length s ≤ from →
+    at ≤ length d →
+    part (pasted d at s) from n ≡ part d from n
 part-after d s at from n h g =
     ap (take n) (rw (← (add-sub-of-le h), ← drop-drop, pasted-end d at s g, drop-drop))
 
@@ -59,10 +73,14 @@ part-after d s at from n h g =
 pub part-pasted : (d s : List ℕ) (at n : ℕ) → length s ≡ n → at ≤ length d → part (pasted d at s) at n ≡ s
 unfolding pasted
 part-pasted d s at n e g =
-    rw (append-assoc, drop-at (take at d) (s ++ drop (at + length s) d) at (rw length-take (omega arith))) (take-at s _ n e)
+    let rest = drop-at (take at d) (s ++ drop (at + length s) d) at (rw length-take (omega arith)) in
+    rw (append-assoc, rest) (take-at s _ n e)
 
 -- a part pasted after a part
-pub pasted-pasted : (d : List ℕ) (at : ℕ) (s t : List ℕ) → at ≤ length d → pasted (pasted d at s) (at + length s) t ≡ pasted d at (s ++ t)
+pub pasted-pasted :
+    (d : List ℕ) (at : ℕ) (s t : List ℕ) →
+    at ≤ length d →
+    pasted (pasted d at s) (at + length s) t ≡ pasted d at (s ++ t)
 unfolding pasted
 pasted-pasted d at s t h =
     let n : length (take at d ++ s) ≡ at + length s = simp (length-append, length-take) (omega arith) in
@@ -74,8 +92,11 @@ pasted-pasted d at s t h =
     (simp (drop-drop, length-append, append-assoc, add-assoc))
 
 -- the same, with the first part's length as the code has it
-pub pasted-more : (d : List ℕ) (at n : ℕ) (s t : List ℕ) → length s ≡ n → at ≤ length d
-    → pasted (pasted d at s) (at + n) t ≡ pasted d at (s ++ t)
+pub pasted-more :
+    (d : List ℕ) (at n : ℕ) (s t : List ℕ) →
+    length s ≡ n →
+    at ≤ length d →
+    pasted (pasted d at s) (at + n) t ≡ pasted d at (s ++ t)
 pasted-more d at n s t e h = rw (← e) (pasted-pasted d at s t h)
 
 -- a store
@@ -84,10 +105,14 @@ unfolding pasted
 pasted-one d at v h = rw (add-one, set-split d at v) (simp append-assoc)
 
 -- a store right after a part
-pub pasted-set : (d : List ℕ) (at n v : ℕ) (s : List ℕ) → length s ≡ n → at + n < length d
-    → set (pasted d at s) (at + n) v ≡ pasted d at (s ++ (v ∷ []))
+pub pasted-set :
+    (d : List ℕ) (at n v : ℕ) (s : List ℕ) →
+    length s ≡ n →
+    at + n < length d →
+    set (pasted d at s) (at + n) v ≡ pasted d at (s ++ (v ∷ []))
 pasted-set d at n v s e h =
-    pasted-one (pasted d at s) (at + n) v (rw (pasted-length d at s (omega arith)) h) ∙ pasted-more d at n s (v ∷ []) e (omega arith)
+    pasted-one (pasted d at s) (at + n) v (rw (pasted-length d at s (omega arith)) h) ∙
+    pasted-more d at n s (v ∷ []) e (omega arith)
 
 -- one more element of a copy
 pub take-more : (s : List ℕ) (i : ℕ) → i < length s → take i s ++ (getD s i 0 ∷ []) ≡ take (i + 1) s
@@ -128,34 +153,52 @@ joined-add m zero f = simp (add-zero, append-nil)
 joined-add m (suc n) f = rw (add-suc, joined-add m n f) (simp append-assoc)
 
 -- parts that are all one byte
-pub joined-fill : (m k z : ℕ) (f : ℕ → List ℕ) → ((b : ℕ) → b < m → f b ≡ replicate k z) → joined m f ≡ replicate (m * k) z
+pub joined-fill :
+    (m k z : ℕ) (f : ℕ → List ℕ) →
+    ((b : ℕ) → b < m → f b ≡ replicate k z) →
+    joined m f ≡ replicate (m * k) z
 unfolding joined
 joined-fill zero k z f h = simp zero-mul
 joined-fill (suc m) k z f h =
     rw (joined-fill m k z f (λ b g. h b (omega arith)), h m (omega arith), replicate-append-replicate, suc-mul)
 
 -- parts that lie side by side in one list
-pub joined-part : (m k base : ℕ) (t : List ℕ) (f : ℕ → List ℕ)
-    → ((b : ℕ) → b < m → f b ≡ part t (base + b * k) k) → joined m f ≡ part t base (m * k)
+pub joined-part :
+    (m k base : ℕ) (t : List ℕ) (f : ℕ → List ℕ) →
+    ((b : ℕ) → b < m → f b ≡ part t (base + b * k) k) →
+    joined m f ≡ part t base (m * k)
 unfolding joined
 joined-part zero k base t f h = simp zero-mul
 joined-part (suc m) k base t f h =
     rw (joined-part m k base t f (λ b g. h b (omega arith)), h m (omega arith), suc-mul, take-add, drop-drop)
 
 -- a loop that writes a part each turn: d₁ is d with the first a parts, and d₂ has one more
-pub joined-more : (d : List ℕ) (base a k : ℕ) (f : ℕ → List ℕ) {at : ℕ} {d₁ d₂ : List ℕ}
-    → ((i : ℕ) → length (f i) ≡ k) → base ≤ length d → at ≡ base + a * k
-    → d₁ ≡ pasted d base (joined a f) → d₂ ≡ pasted d₁ at (f a) → d₂ ≡ pasted d base (joined (a + 1) f)
+pub joined-more :
+    (d : List ℕ) (base a k : ℕ) (f : ℕ → List ℕ) {at : ℕ} {d₁ d₂ : List ℕ} →
+    ((i : ℕ) → length (f i) ≡ k) →
+    base ≤ length d →
+    at ≡ base + a * k →
+    d₁ ≡ pasted d base (joined a f) →
+    d₂ ≡ pasted d₁ at (f a) →
+    d₂ ≡ pasted d base (joined (a + 1) f)
 joined-more d base a k f hk hd ea e₁ e₂ =
     rw (e₂, e₁, ea, joined-step, pasted-more d base (a * k) (joined a f) (f a) (joined-length a k f hk) hd)
 
 -- such a loop at its end
-pub joined-done : (d : List ℕ) (base : ℕ) (f : ℕ → List ℕ) {d₁ : List ℕ} {a n : ℕ} → a ≡ n
-    → d₁ ≡ pasted d base (joined a f) → d₁ ≡ pasted d base (joined n f)
+pub joined-done :
+    (d : List ℕ) (base : ℕ) (f : ℕ → List ℕ) {d₁ : List ℕ} {a n : ℕ} →
+    a ≡ n →
+    d₁ ≡ pasted d base (joined a f) →
+    d₁ ≡ pasted d base (joined n f)
 joined-done d base f h e = e ∙ ap (λ (k : ℕ). pasted d base (joined k f)) h
 
 -- a loop that stores an element each turn
-pub joined-set : (d : List ℕ) (base a : ℕ) (v : ℕ → ℕ) {x : ℕ} {d₁ : List ℕ} → base + a < length d
-    → d₁ ≡ pasted d base (joined a (λ i. v i ∷ [])) → x ≡ v a → set d₁ (base + a) x ≡ pasted d base (joined (a + 1) (λ i. v i ∷ []))
+pub joined-set :
+    (d : List ℕ) (base a : ℕ) (v : ℕ → ℕ) {x : ℕ} {d₁ : List ℕ} →
+    base + a < length d →
+    d₁ ≡ pasted d base (joined a (λ i. v i ∷ [])) →
+    x ≡ v a →
+    set d₁ (base + a) x ≡ pasted d base (joined (a + 1) (λ i. v i ∷ []))
 joined-set d base a v h e ex =
-    rw (e, ex, joined-step, pasted-set d base a (v a) (joined a (λ i. v i ∷ [])) (joined-length a 1 (λ i. v i ∷ []) (λ i. refl) ∙ mul-one a) h)
+    let n = joined-length a 1 (λ i. v i ∷ []) (λ i. refl) ∙ mul-one a in
+    rw (e, ex, joined-step, pasted-set d base a (v a) (joined a (λ i. v i ∷ [])) n h)

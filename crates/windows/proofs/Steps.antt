@@ -1,7 +1,7 @@
 -- Steps of the sums Σq and Σqw, which the loops that take them cite.
 -- Assumes nothing.
-use mathlib.Core.Path.{_≡_, refl}
-use mathlib.Core.List.{List, [], _∷_}
+use mathlib.Core.Path.{_≡_}
+use mathlib.Core.List.{List}
 use Prim.Native.Nat.{ℕ, _+_, _*_, _≤_, _<_}
 use native.Mathlib.Nat.{mul-le-mul, add-assoc}
 use native.Mathlib.Numerals.{add-one}
@@ -23,8 +23,12 @@ pub sum-end : (q : List ℕ) (i : ℕ) → length q ≤ i → sum (drop i q) ≡
 sum-end q i h = rw drop-of-length-le
 
 -- one more product of Σqw, at place i + k
-pub dot-step : (q w : List ℕ) (i k : ℕ) → i + k < length q → i + k < length w
-    → dot (drop (i + k) q) (drop (i + k) w) ≡ getD q (i + k) 0 * getD w (i + k) 0 + dot (drop (i + (k + 1)) q) (drop (i + (k + 1)) w)
+pub dot-step :
+    (q w : List ℕ) (i k : ℕ) →
+    i + k < length q →
+    i + k < length w →
+    dot (drop (i + k) q) (drop (i + k) w) ≡
+    getD q (i + k) 0 * getD w (i + k) 0 + dot (drop (i + (k + 1)) q) (drop (i + (k + 1)) w)
 dot-step q w i k h g = rw (← (add-assoc i k 1), add-one, drop-cons q (i + k) 0, drop-cons w (i + k) 0)
 
 -- Σqw of what is past the end

@@ -1,4 +1,5 @@
--- `windows::sums::byte_total` meets its contract. The invariant: the sum so far and that of the rest make the whole, and it is at most 255 for each place passed.
+-- `windows::sums::byte_total` meets its contract. The loop's invariant: the sum so far and Σq of the rest make the whole,
+-- and it is at most 255 for each byte passed.
 -- Assumes nothing.
 use mathlib.Core.Path.{_≡_}
 use Prim.Native.Nat.{_+_, _*_, _-_, _≤_}

@@ -1,7 +1,8 @@
--- `windows::sums::dot` meets its contract. Assumes nothing.
-use mathlib.Core.Path.{_≡_, ap, sym, _∙_}
-use Prim.Native.Nat.{ℕ, _+_, _*_, _-_, _≤_}
-use native.Mathlib.Nat.{add-zero, add-assoc}
+-- `windows::sums::dot` meets its contract. The invariant of both loops: the sum so far and Σqw of the rest make the whole,
+-- and it is at most 65025 for each place passed.
+-- Assumes nothing.
+use mathlib.Core.Path.{_≡_}
+use Prim.Native.Nat.{_+_, _*_, _-_, _≤_}
 use native.Mathlib.Omega.{arith}
 use lib.ListN.{length, drop}
 use denote.Ref.{now}
@@ -75,9 +76,10 @@ add-result c = omega arith
 
 returns : tie.Need-returns Inv-loop μ-loop Inv-loop2 μ-loop2
 returns c =
-    let i = c .before .before .loop2 .i in
-    let q = now (c .before .before .before .before .before .before .before .args .q) in
-    omega (arith, dot-end q (now (c .before .before .before .before .before .before .before .args .w)) (i + (length q - i)) (omega arith) (omega arith))
+    let l = c .before .before in
+    let a = l .before .before .before .before .before .args in
+    let end = l .loop2 .i + (length (now (a .q)) - l .loop2 .i) in
+    omega (arith, dot-end (now (a .q)) (now (a .w)) end (omega arith) (omega arith))
 
 pub dot-spec : {M : Type 1} → statement M
 dot-spec =

@@ -1,9 +1,11 @@
--- `windows::sums::dot_run` meets its contract. Assumes nothing.
-use mathlib.Core.Path.{_≡_, ap, sym, _∙_}
-use Prim.Native.Nat.{ℕ, _+_, _*_, _-_, _≤_}
-use native.Mathlib.Nat.{add-zero, add-assoc}
+-- `windows::sums::dot_run` meets its contract. The loop's invariant: the sum so far and Σqw of the rest make Σqw from i,
+-- and it is at most 65025 for each place passed.
+-- Assumes nothing.
+use mathlib.Core.Path.{_≡_}
+use Prim.Native.Nat.{_+_, _*_, _-_, _≤_}
+use native.Mathlib.Nat.{add-zero}
 use native.Mathlib.Omega.{arith}
-use lib.ListN.{length, drop}
+use lib.ListN.{drop}
 use denote.Ref.{now}
 use Rattle.numbers.specs.Total.{dot}
 use Rattle.windows.proofs.Steps.{dot-step}
@@ -11,7 +13,8 @@ use Rattle.windows.proofs.sums.dot_run.Statement.{statement}
 use Rattle.windows.proofs.sums.dot_run.Tie as tie
 
 abbrev Inv-loop : tie.InvT-loop
-Inv-loop q w i n s₀ k₀ s k = (k ≤ n) × (s + dot (drop (i + k) q) (drop (i + k) w) ≡ dot (drop i q) (drop i w)) × (s ≤ 65025 * k)
+Inv-loop q w i n s₀ k₀ s k =
+    (k ≤ n) × (s + dot (drop (i + k) q) (drop (i + k) w) ≡ dot (drop i q) (drop i w)) × (s ≤ 65025 * k)
 
 abbrev μ-loop : tie.MeasureT-loop
 μ-loop q w i n s₀ k₀ s k = n - k

@@ -1,4 +1,5 @@
--- `windows::sums::product` meets its contract. Assumes nothing.
+-- `windows::sums::product` meets its contract: the product of two bytes fits.
+-- Assumes nothing.
 use native.Mathlib.Omega.{arith}
 use Rattle.windows.proofs.Steps.{byte-product}
 use Rattle.windows.proofs.sums.product.Statement.{statement}

@@ -1,12 +1,10 @@
--- `windows::window::put_strip` meets its contract. Assumes nothing.
-use mathlib.Core.Path.{_≡_, sym, ap, _∙_}
-use mathlib.Core.List.{List}
-use Prim.Native.Nat.{ℕ, _+_, _*_, _-_, _≤_}
+-- `windows::window::put_strip` meets its contract: a row of padding is one store, and `strip-stored` joins the three
+-- stores of any other.
+-- Assumes nothing.
 use native.Mathlib.Omega.{arith}
 use borrow.Author.Needs.{needs}
 use denote.Ref.{now}
-use Rattle.windows.specs.Lists.{pasted}
-use Rattle.windows.proofs.Windows.{side-before, side-after, strip-off, strip-stored}
+use Rattle.windows.proofs.Windows.{side-before, side-after, strip-filled, strip-stored}
 use Rattle.windows.proofs.window.put_strip.Statement.{statement}
 use Rattle.windows.proofs.window.put_strip.Tie as tie
 
@@ -22,7 +20,8 @@ same-length c = search needs
 returns : tie.Need-returns
 returns c =
     let a = c .before .before .before .before .before .before .before .before .args in
-    c .before .before .fill-in .ensures ∙ ap (pasted (now (a .patch)) (a .at)) (sym (strip-off (a .w) (now (a .t)) (a .p) (a .q) (side-before (a .w .top) (a .w .rows) (a .p) (c .before .before .before .before .if1 .taken))))
+    let off = side-before (a .w .top) (a .w .rows) (a .p) (c .before .before .before .before .if1 .taken) in
+    strip-filled (a .w) (now (a .t)) (now (a .patch)) (a .at) (a .p) (a .q) off (c .before .before .fill-in .ensures)
 
 fill-in-requires-2 : tie.Need-fill-in-requires-2
 fill-in-requires-2 c κs = search needs
@@ -33,7 +32,8 @@ same-length-2 c = search needs
 returns-2 : tie.Need-returns-2
 returns-2 c =
     let a = c .before .before .before .before .before .before .before .before .before .args in
-    c .before .before .fill-in2 .ensures ∙ ap (pasted (now (a .patch)) (a .at)) (sym (strip-off (a .w) (now (a .t)) (a .p) (a .q) (side-after (a .w .top) (a .w .rows) (a .p) (c .before .before .before .before .if2 .taken))))
+    let off = side-after (a .w .top) (a .w .rows) (a .p) (c .before .before .before .before .if2 .taken) in
+    strip-filled (a .w) (now (a .t)) (now (a .patch)) (a .at) (a .p) (a .q) off (c .before .before .fill-in2 .ensures)
 
 run-of-requires : tie.Need-run-of-requires
 run-of-requires c κs = search needs
@@ -73,12 +73,15 @@ same-length-3 c = search needs
 
 returns-3 : tie.Need-returns-3
 returns-3 c =
-    let z = c .before .before .before .before .before .before .before .before .before .before .before .before .before .before .before .before .before .before .before in
-    let a = z .args in
-    let k = c .before .before .before .before .before .before .before .before .before .before .before .before .before .run-of in
-    strip-stored (a .w) (now (a .t)) (now (a .patch)) (a .at) (a .p) (a .q) (k .result) (z .pre .0) (z .pre .1 .0 .0) (z .pre .1 .0 .1)
-    (omega (arith, z .pre)) (c .before .before .before .before .before .before .before .before .before .before .before .before .before .before .before .if1 .left) (c .before .before .before .before .before .before .before .before .before .before .before .before .before .before .if2 .left) (k .ensures)
-    (c .before .before .before .before .before .before .before .before .before .before .before .fill-in3 .ensures) (c .before .before .before .before .before .before .copy-in .ensures) (c .before .before .fill-in4 .ensures)
+    let third = c .before .before .before .before .before .before in
+    let second = third .before .before .before .before .before in
+    let first = second .before .before in
+    let s = first .before .before .before .before .before .before in
+    let a = s .args in
+    strip-stored (a .w) (now (a .t)) (now (a .patch)) (a .at) (a .p) (a .q) (first .run-of .result)
+    (s .pre .0) (s .pre .1 .0 .0) (s .pre .1 .0 .1) (omega (arith, s .pre))
+    (first .before .before .if1 .left) (first .before .if2 .left) (first .run-of .ensures)
+    (second .fill-in3 .ensures) (third .copy-in .ensures) (c .before .before .fill-in4 .ensures)
 
 pub put-strip-spec : {M : Type 1} → statement M
 put-strip-spec =

@@ -1,8 +1,5 @@
--- `windows::window::run_of` meets its contract. Assumes nothing.
-use mathlib.Core.Path.{_≡_, sym, ap, _∙_}
-use mathlib.Core.List.{List}
-use Prim.Native.Nat.{ℕ, _+_, _*_, _-_, _≤_, min}
-use native.Mathlib.Nat.{mul-le-mul}
+-- `windows::window::run_of` meets its contract: no product is above its bounds, and `run-made` puts the numbers together.
+-- Assumes nothing.
 use native.Mathlib.Omega.{arith}
 use borrow.Author.Needs.{needs}
 use Rattle.windows.proofs.Windows.{line-bound, run-made}
@@ -31,7 +28,9 @@ add-times : tie.Need-add-times
 add-times c = search needs
 
 times-requires-2 : tie.Need-times-requires-2
-times-requires-2 c κs = omega (arith, line-bound (c .before .before .before .before .before .args .w) (c .before .before .before .before .before .args .r) (c .before .before .before .before .before .pre .0) (c .before .before .before .before .before .pre .1 .0))
+times-requires-2 c κs =
+    let s = c .before .before .before .before .before in
+    omega (arith, line-bound (s .args .w) (s .args .r) (s .pre .0) (s .pre .1 .0))
 
 times-requires-3 : tie.Need-times-requires-3
 times-requires-3 c κs = search needs
@@ -53,10 +52,14 @@ times-requires-5 c κs = search needs
 
 returns : tie.Need-returns
 returns c =
-    let z = c .before .before .before .before .before .before .before .before .before .before in
-    run-made (z .args .w) (z .args .r) (z .args .q) (z .pre .0) (z .pre .1 .0) (z .pre .1 .1)
-    (c .before .before .before .before .before .before .before .before .before .less .ensures) (c .before .before .before .before .before .before .before .smaller .ensures) (c .before .before .before .before .before .before .times .ensures .0) (c .before .before .before .before .before .less2 .ensures) (c .before .before .before .before .times2 .ensures .0)
-    (c .before .before .before .times3 .ensures .0) (c .before .before .times4 .ensures .0) (c .times5 .ensures .0)
+    let third = c .before .before .before in
+    let second = third .before in
+    let first = second .before .before .before in
+    let s = first .before .before .before in
+    run-made (s .args .w) (s .args .r) (s .args .q) (s .pre .0) (s .pre .1 .0) (s .pre .1 .1)
+    (first .before .before .less .ensures) (first .smaller .ensures)
+    (second .before .before .times .ensures .0) (second .before .less2 .ensures) (second .times2 .ensures .0)
+    (third .times3 .ensures .0) (c .before .before .times4 .ensures .0) (c .times5 .ensures .0)
 
 pub run-of-spec : {M : Type 1} → statement M
 run-of-spec =

@@ -1,4 +1,5 @@
--- `windows::window::times` meets its contract. Assumes nothing.
+-- `windows::window::times` meets its contract: the product is at most that of the bounds.
+-- Assumes nothing.
 use native.Mathlib.Nat.{mul-le-mul}
 use native.Mathlib.Omega.{arith}
 use Rattle.windows.proofs.window.times.Statement.{statement}

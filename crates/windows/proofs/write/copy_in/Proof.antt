@@ -1,15 +1,14 @@
--- `windows::write::copy_in` meets its contract. Assumes nothing.
-use mathlib.Core.Path.{_≡_, sym, ap, _∙_}
-use mathlib.Core.List.{List}
-use Prim.Native.Nat.{ℕ, _+_, _*_, _-_, _≤_}
-use native.Mathlib.Nat.{le-antisymm}
+-- `windows::write::copy_in` meets its contract. The loop's invariant: the first i bytes of src are pasted.
+-- Assumes nothing.
+use mathlib.Core.Path.{_≡_, sym}
+use Prim.Native.Nat.{_-_, _≤_}
 use native.Mathlib.Omega.{arith}
 use borrow.Author.Needs.{needs}
-use lib.ListN.{length, take, drop, replicate, length-replicate, getD, set, length-set}
+use lib.ListN.{length, take, getD, length-set}
 use lib.Seq.{length-take-le, take-all}
 use denote.Ref.{now}
 use Rattle.windows.specs.Lists.{pasted}
-use Rattle.windows.proofs.Pasted.{pasted-nil, pasted-length, pasted-set, take-more, replicate-more}
+use Rattle.windows.proofs.Pasted.{pasted-nil, pasted-set, take-more}
 use Rattle.windows.proofs.write.copy_in.Statement.{statement}
 use Rattle.windows.proofs.write.copy_in.Tie as tie
 
@@ -42,9 +41,10 @@ loop-again c =
     let l = c .before .before in
     let a = l .before .args in
     let s = now (a .src) in
-    let i = l .loop .i in (
+    let i = l .loop .i in
+    let n = length-take-le i s (omega arith) in (
       omega arith,
-      cc (pasted-set (now (a .dst)) (a .at) i (getD s i 0) (take i s) (length-take-le i s (omega arith)) (omega arith), take-more s i (omega arith)),
+      cc (pasted-set (now (a .dst)) (a .at) i (getD s i 0) (take i s) n (omega arith), take-more s i (omega arith)),
       simp length-set (l .loop .inv .2),
     )
 

@@ -1,15 +1,13 @@
--- `windows::write::fill_in` meets its contract. Assumes nothing.
-use mathlib.Core.Path.{_≡_, sym, ap, _∙_}
-use mathlib.Core.List.{List}
-use Prim.Native.Nat.{ℕ, _+_, _*_, _-_, _≤_}
-use native.Mathlib.Nat.{le-antisymm}
+-- `windows::write::fill_in` meets its contract. The loop's invariant: z is pasted i times.
+-- Assumes nothing.
+use mathlib.Core.Path.{_≡_, sym}
+use Prim.Native.Nat.{_-_, _≤_}
 use native.Mathlib.Omega.{arith}
 use borrow.Author.Needs.{needs}
-use lib.ListN.{length, take, drop, replicate, length-replicate, getD, set, length-set}
-use lib.Seq.{length-take-le, take-all}
+use lib.ListN.{length, replicate, length-replicate, length-set}
 use denote.Ref.{now}
 use Rattle.windows.specs.Lists.{pasted}
-use Rattle.windows.proofs.Pasted.{pasted-nil, pasted-length, pasted-set, take-more, replicate-more}
+use Rattle.windows.proofs.Pasted.{pasted-nil, pasted-set, replicate-more}
 use Rattle.windows.proofs.write.fill_in.Statement.{statement}
 use Rattle.windows.proofs.write.fill_in.Tie as tie
 
@@ -38,9 +36,10 @@ loop-again : tie.Need-loop-again Inv-loop μ-loop
 loop-again c =
     let l = c .before in
     let a = l .before .args in
-    let i = l .loop .i in (
+    let i = l .loop .i in
+    let s = replicate i (a .z) in (
       omega arith,
-      cc (pasted-set (now (a .dst)) (a .at) i (a .z) (replicate i (a .z)) (length-replicate i (a .z)) (omega arith), replicate-more i (a .z)),
+      cc (pasted-set (now (a .dst)) (a .at) i (a .z) s (length-replicate i (a .z)) (omega arith), replicate-more i (a .z)),
       simp length-set (l .loop .inv .2),
     )
 
