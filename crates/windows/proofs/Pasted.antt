@@ -2,7 +2,7 @@
 -- Assumes nothing.
 use mathlib.Core.Path.{_≡_, refl, sym, ap, _∙_}
 use mathlib.Core.List.{List, [], _∷_, _++_, append-assoc, append-nil}
-use Prim.Native.Nat.{ℕ, zero, suc, _+_, _*_, _≤_, _<_}
+use Prim.Native.Nat.{ℕ, zero, suc, _+_, _*_, _-_, _≤_, _<_}
 use native.Mathlib.Nat.{add-zero, add-suc, add-assoc, add-sub-of-le, zero-mul, suc-mul, mul-one}
 use native.Mathlib.Numerals.{add-one}
 use native.Mathlib.Omega.{arith}
@@ -40,13 +40,17 @@ pub pasted-length : (d : List ℕ) (at : ℕ) (s : List ℕ) → at + length s �
 unfolding pasted
 pasted-length d at s h = simp (length-append, length-take, length-drop) (omega arith)
 
+-- the front of the list, up to where the pasted part ends
+front-length : (d : List ℕ) (at : ℕ) (s : List ℕ) → at ≤ length d → length (take at d ++ s) ≡ at + length s
+front-length d at s h = simp (length-append, length-take) (omega arith)
+
 -- the end of the list, from where the pasted part ends
 pasted-end :
     (d : List ℕ) (at : ℕ) (s : List ℕ) →
     at ≤ length d →
     drop (at + length s) (pasted d at s) ≡ drop (at + length s) d
 unfolding pasted
-pasted-end d at s h = drop-at (take at d ++ s) _ (at + length s) (simp (length-append, length-take) (omega arith))
+pasted-end d at s h = drop-at (take at d ++ s) _ (at + length s) (front-length d at s h)
 
 -- a part that ends before what is pasted is as it was
 pub part-before :
@@ -67,7 +71,9 @@ pub part-after :
     at ≤ length d →
     part (pasted d at s) from n ≡ part d from n
 part-after d s at from n h g =
-    ap (take n) (rw (← (add-sub-of-le h), ← drop-drop, pasted-end d at s g, drop-drop))
+    let m = at + length s in
+    let rest = drop-drop (from - m) m in
+    ap (take n) (rw (← (add-sub-of-le h), ← (rest (pasted d at s)), pasted-end d at s g) (rest d))
 
 -- the part that is pasted
 pub part-pasted : (d s : List ℕ) (at n : ℕ) → length s ≡ n → at ≤ length d → part (pasted d at s) at n ≡ s
@@ -83,11 +89,11 @@ pub pasted-pasted :
     pasted (pasted d at s) (at + length s) t ≡ pasted d at (s ++ t)
 unfolding pasted
 pasted-pasted d at s t h =
-    let n : length (take at d ++ s) ≡ at + length s = simp (length-append, length-take) (omega arith) in
+    let m = at + length s in
     rw (
-      take-at (take at d ++ s) (drop (at + length s) d) (at + length s) n,
-      ← (drop-drop (length t) (at + length s) (take at d ++ s ++ drop (at + length s) d)),
-      drop-at (take at d ++ s) (drop (at + length s) d) (at + length s) n,
+      take-at (take at d ++ s) (drop m d) m (front-length d at s h),
+      ← (drop-drop (length t) m (pasted d at s)),
+      pasted-end d at s h,
     )
     (simp (drop-drop, length-append, append-assoc, add-assoc))
 
