@@ -1,0 +1,7 @@
+-- Laws that belong to no one function, and the examples.
+pub mod Added
+pub mod Examples
+pub mod Finished
+pub mod Rescaled
+pub mod Totals
+pub mod Whole

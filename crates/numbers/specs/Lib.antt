@@ -1,0 +1,5 @@
+-- The definitions that the contracts of `numbers` cite, in the order of document 01's section "The numbers".
+pub mod Total
+pub mod Rescale
+pub mod Finish
+pub mod Addition
