@@ -5,7 +5,7 @@ use mathlib.Core.Path.{_≡_}
 use mathlib.Core.List.{List}
 use lib.IntN.{natAbs}
 use lib.ListN.{length}
-use Rattle.records.specs.Bytes.{i32At}
+use Rattle.records.specs.Bytes.{byteAt, i32At}
 use Rattle.records.specs.Shape.{bytesOf, GoodShape}
 use Rattle.records.specs.Layer.{sumsOf, biasesAt, recordLen}
 use Rattle.records.specs.Conv.{convAt, convOutput, ConvOk}
@@ -64,7 +64,7 @@ pub record Taken (s : List ℕ) (n : Network) : Type 0 where
   pub count-some : 1 ≤ n .count
   pub count-few : n .count ≤ 16
   pub sixteen : length (n .layers) ≡ 16
-  pub zero-byte : n .zero ≤ 255
+  pub zero-is : n .zero ≡ byteAt s 7
   pub shapes : (t : ℕ) → t ≤ n .count → GoodShape (tensorOf n t)
   pub layers : (m : ℕ) → m < n .count → LayerTaken s n m (layerOf n m)
   pub first-start : layerOf n 0 .start ≡ 10

@@ -3,6 +3,7 @@ ghost use mathlib.Core.Path.{_≡_};
 ghost use Prim.Native.Nat.{_+_, _≤_, _<_, min};
 ghost use lib.ListN.{length};
 ghost use Rattle.records.specs.Shape.{GoodShape};
+ghost use Rattle.records.specs.Layer.{sumsOf};
 ghost use Rattle.network.specs.Network.{tensorOf};
 ghost use Rattle.network.specs.Decode.{CanStep, readLayer, startOf, pushed, stopped, stepOf, endFault, decodedAs, decodeOf};
 use crate::head::head_fault;
@@ -102,7 +103,7 @@ fn start(s: &[u8]) -> Progress
 // One more layer.
 fn push(p: Progress, l: Layer, next: usize) -> Progress
     requires { ⌜ (p .made < 16) × (p .network .area ≤ 65536) × (p .network .store ≤ 65536) ⌝ }
-    requires { ⌜ GoodShape (l .output) ⌝ }
+    requires { ⌜ GoodShape (l .output) × (sumsOf (l .kind) ≤ 256) ⌝ }
     ensures { λ r. ⌜ r ≡ pushed p l next ⌝ }
 {
     let mut network = p.network;

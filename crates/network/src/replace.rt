@@ -19,13 +19,13 @@ use records::layer::Layer;
 use records::stored::bias_faults;
 
 // Whether the first n bytes of the record are those of the file from `at`.
-fn agrees(file: &[u8], at: usize, record: &[u8], n: usize) -> bool
-    requires { ⌜ (at + n ≤ length (now file)) × (n ≤ length (now record)) ⌝ }
-    ensures { λ r. ⌜ r ≡ agree (now (file .entry)) at (now (record .entry)) n ⌝ }
+fn agrees(file: &[u8], at: usize, new: &[u8], n: usize) -> bool
+    requires { ⌜ (at + n ≤ length (now file)) × (n ≤ length (now new)) ⌝ }
+    ensures { λ r. ⌜ r ≡ agree (now (file .entry)) at (now (new .entry)) n ⌝ }
 {
     let mut i: usize = 0;
     while i < n {
-        if file[at + i] != record[i] {
+        if file[at + i] != new[i] {
             return false;
         }
         i += 1;
@@ -44,64 +44,64 @@ fn agreeing_of(kind: Kind) -> usize
     }
 }
 
-fn conv_record_fault(record: &[u8], filters: usize) -> u8
-    requires { ⌜ 16 + 4 * filters ≤ length (now record) ⌝ }
-    ensures { λ r. ⌜ r ≡ convRecordFault (now (record .entry)) filters ⌝ }
+fn conv_record_fault(new: &[u8], filters: usize) -> u8
+    requires { ⌜ 16 + 4 * filters ≤ length (now new) ⌝ }
+    ensures { λ r. ⌜ r ≡ convRecordFault (now (new .entry)) filters ⌝ }
 {
-    let c = conv_at(record, 0, u32_at(record, 12));
-    first_of(conv_fields(c), bias_faults(record, 16, filters))
+    let c = conv_at(new, 0, u32_at(new, 12));
+    first_of(conv_fields(c), bias_faults(new, 16, filters))
 }
 
-fn full_record_fault(record: &[u8], outputs: usize) -> u8
-    requires { ⌜ 14 + 4 * outputs ≤ length (now record) ⌝ }
-    ensures { λ r. ⌜ r ≡ fullRecordFault (now (record .entry)) outputs ⌝ }
+fn full_record_fault(new: &[u8], outputs: usize) -> u8
+    requires { ⌜ 14 + 4 * outputs ≤ length (now new) ⌝ }
+    ensures { λ r. ⌜ r ≡ fullRecordFault (now (new .entry)) outputs ⌝ }
 {
-    let f = full_at(record, 0, u16_at(record, 2), u32_at(record, 10));
-    let rest = first_of(full_fields(f), bias_faults(record, 14, outputs));
-    first_of(spare_fault(record[9]), rest)
+    let f = full_at(new, 0, u16_at(new, 2), u32_at(new, 10));
+    let rest = first_of(full_fields(f), bias_faults(new, 14, outputs));
+    first_of(spare_fault(new[9]), rest)
 }
 
-fn add_record_fault(record: &[u8]) -> u8
-    requires { ⌜ 22 ≤ length (now record) ⌝ }
-    ensures { λ r. ⌜ r ≡ addRecordFault (now (record .entry)) ⌝ }
+fn add_record_fault(new: &[u8]) -> u8
+    requires { ⌜ 22 ≤ length (now new) ⌝ }
+    ensures { λ r. ⌜ r ≡ addRecordFault (now (new .entry)) ⌝ }
 {
     let a = add_at(
-        record,
+        new,
         0,
-        u32_at(record, 6),
-        u32_at(record, 10),
-        u32_at(record, 14),
+        u32_at(new, 6),
+        u32_at(new, 10),
+        u32_at(new, 14),
     );
-    first_of(spare_fault(record[21]), add_fields(a))
+    first_of(spare_fault(new[21]), add_fields(a))
 }
 
 // A spare, a field or a bias out of its range, by the kind in place.
-fn record_fault(kind: Kind, record: &[u8]) -> u8
-    requires { ⌜ fixedOf kind + 4 * sumsOf kind ≤ length (now record) ⌝ }
-    ensures { λ r. ⌜ r ≡ recordFault kind (now (record .entry)) ⌝ }
+fn record_fault(kind: Kind, new: &[u8]) -> u8
+    requires { ⌜ fixedOf kind + 4 * sumsOf kind ≤ length (now new) ⌝ }
+    ensures { λ r. ⌜ r ≡ recordFault kind (now (new .entry)) ⌝ }
 {
     match kind {
-        Kind::Convolution(c) => conv_record_fault(record, c.filters as usize),
-        Kind::Fully(f) => full_record_fault(record, f.outputs as usize),
-        Kind::Addition(_) => add_record_fault(record),
+        Kind::Convolution(c) => conv_record_fault(new, c.filters as usize),
+        Kind::Fully(f) => full_record_fault(new, f.outputs as usize),
+        Kind::Addition(_) => add_record_fault(new),
     }
 }
 
 // Test 9, of a record for the layer y, `end` being where y's own record ends in the file: 0, or 9.
-pub fn replace_fault(file: &[u8], y: Layer, end: usize, record: &[u8]) -> u8
+pub fn replace_fault(file: &[u8], y: Layer, end: usize, new: &[u8]) -> u8
     requires { ⌜ end ≡ y .start + recordLen y ⌝ }
     requires { ⌜ end ≤ length (now file) ⌝ }
-    ensures { λ r. ⌜ r ≡ replaceFault (now (file .entry)) y (now (record .entry)) ⌝ }
+    ensures { λ r. ⌜ r ≡ replaceFault (now (file .entry)) y (now (new .entry)) ⌝ }
 {
     let start = y.start;
     let kind = y.kind;
-    if record.len() != end - start {
+    if new.len() != end - start {
         return 9;
     }
-    if !agrees(file, start, record, agreeing_of(kind)) {
+    if !agrees(file, start, new, agreeing_of(kind)) {
         return 9;
     }
-    if record_fault(kind, record) != 0 {
+    if record_fault(kind, new) != 0 {
         return 9;
     }
     0
