@@ -32,6 +32,9 @@ pub record Ready (s : List ℕ) (left : ℕ) (p : Progress) : Type 0 where
   pub count-few : p .network .count ≤ 16
   pub sixteen : length (p .network .layers) ≡ 16
   pub zero-is : p .network .zero ≡ byteAt s 7
+  pub picture-rows : p .network .picture .rows ≤ 256
+  pub picture-columns : p .network .picture .columns ≤ 256
+  pub picture-channels : p .network .picture .channels ≤ 64
   pub sofar : Sofar s (p .network) (p .made) (p .at)
 
 -- unless it is refused
@@ -56,6 +59,9 @@ pushed-ready s left p l next h r g =
       count-few = r .count-few;
       sixteen = length-set (p .network .layers) (p .made) l ∙ r .sixteen;
       zero-is = r .zero-is;
+      picture-rows = r .picture-rows;
+      picture-columns = r .picture-columns;
+      picture-channels = r .picture-channels;
       sofar = subst⁻¹ (λ (k : ℕ). Sofar s (pushed p l next .network) k next) (add-one (p .made)) more;
     }
 
@@ -111,9 +117,10 @@ started-fine s zero p e =
     let g = first-both _ _ (f .1) in
     let size = size-in (pictureAt s) 0 (g .1) in
     let count = within-in 1 16 (byteAt s 8) (g .0) in
-    let good =
-        good-shape (pictureAt s) (within-in 1 256 _ (b .0) .0) (within-in 1 256 _ (d .0) .0) (within-in 1 64 _ (f .0) .0)
-        (size .0) in
+    let rows = within-in 1 256 _ (b .0) in
+    let columns = within-in 1 256 _ (d .0) in
+    let channels = within-in 1 64 _ (f .0) in
+    let good = good-shape (pictureAt s) (rows .0) (columns .0) (channels .0) (size .0) in
     let n = emptyNetwork (pictureAt s) (byteAt s 7) (byteAt s 8) (bytesOf (pictureAt s)) in
     record {
       left-all = omega arith;
@@ -121,6 +128,9 @@ started-fine s zero p e =
       count-few = count .1;
       sixteen = length-replicate 16 blankLayer;
       zero-is = refl;
+      picture-rows = rows .1;
+      picture-columns = columns .1;
+      picture-channels = channels .1;
       sofar = record {
         at-in = cut-there s 0 10 (omega arith) (a .0);
         at-is = refl;

@@ -65,6 +65,9 @@ pub record Taken (s : List ℕ) (n : Network) : Type 0 where
   pub count-few : n .count ≤ 16
   pub sixteen : length (n .layers) ≡ 16
   pub zero-is : n .zero ≡ byteAt s 7
+  pub picture-rows : n .picture .rows ≤ 256
+  pub picture-columns : n .picture .columns ≤ 256
+  pub picture-channels : n .picture .channels ≤ 64
   pub shapes : (t : ℕ) → t ≤ n .count → GoodShape (tensorOf n t)
   pub layers : (m : ℕ) → m < n .count → LayerTaken s n m (layerOf n m)
   pub first-start : layerOf n 0 .start ≡ 10
