@@ -1,0 +1,9 @@
+-- Laws that belong to no one function, and the examples.
+pub mod Bounds
+pub mod Examples
+pub mod Growth
+pub mod Marked
+pub mod Places
+pub mod Replaced
+pub mod Runs
+pub mod Taken
