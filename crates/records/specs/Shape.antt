@@ -9,6 +9,10 @@ use Rattle.records.specs.declared.shape.Shape.{Shape}
 unfoldable pub bytesOf : Shape → ℕ
 bytesOf s = s .rows * s .columns * s .channels
 
+-- the bytes of a row
+abbrev pub rowBytes : Shape → ℕ
+rowBytes s = s .columns * s .channels
+
 -- one tensor has at most 16,384 bytes, all tensors so far, with this one, at most 65,536
 unfoldable pub sizeFault : Shape → ℕ → ℕ
 sizeFault s total = cond (leb (bytesOf s) 16384) (unless (leb (total + bytesOf s) 65536) 3) 3

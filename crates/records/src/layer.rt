@@ -1,10 +1,12 @@
 // A decoded layer: its shapes, its kind with the parameters, and where its parts stand.
 ghost use mathlib.Core.Path.{_≡_};
-ghost use Rattle.records.specs.Layer.{answer, sumsOf};
+ghost use Rattle.records.specs.Shape.{GoodShape};
+ghost use Rattle.records.specs.Layer.{answer, sumsOf, termsOf};
 use crate::add::Add;
 use crate::conv::Conv;
 use crate::full::Full;
 use crate::shape::Shape;
+use crate::shape::bytes_of;
 
 // A multiplier and a shift, by which a total is rescaled.
 pub struct Scale {
@@ -50,6 +52,20 @@ pub fn sums_of(kind: Kind) -> usize
     match kind {
         Kind::Convolution(c) => c.filters as usize,
         Kind::Fully(f) => f.outputs as usize,
+        Kind::Addition(_) => 0,
+    }
+}
+
+// N: the terms of each output of a layer.
+pub fn terms_of(y: Layer) -> usize
+    requires { ⌜ GoodShape (y .input) ⌝ }
+    ensures { λ r. ⌜ r ≡ termsOf (y .kind) (y .input) ⌝ }
+{
+    let input = y.input;
+    let kind = y.kind;
+    match kind {
+        Kind::Convolution(c) => (c.height as usize * c.width as usize) * input.channels,
+        Kind::Fully(_) => bytes_of(input),
         Kind::Addition(_) => 0,
     }
 }
