@@ -103,8 +103,8 @@ module _ (s : List ℕ) (n n′ : Network) (made : ℕ) (l : Layer) (e : Extends
     place-end = omega (arith, t .place-end, e .area);
     sums-end = omega (arith, t .sums-end, e .store);
   } where
-      place-and-bytes : (m : ℕ) → m ≤ made → placeOf n′ m + bytesOf (tensorOf n′ m) ≡ placeOf n m + bytesOf (tensorOf n m)
-      place-and-bytes m h = rw (place-same m h, tensor-same m h)
+    place-and-bytes : (m : ℕ) → m ≤ made → placeOf n′ m + bytesOf (tensorOf n′ m) ≡ placeOf n m + bytesOf (tensorOf n m)
+    place-and-bytes m h = rw (place-same m h, tensor-same m h)
 
   module _ (at next : ℕ) (r : Sofar s n made at) (g : Grown s n made at l next) where
     layer-new : LayerTaken s n′ made l

@@ -120,7 +120,7 @@ started-fine s zero p e =
     let rows = within-in 1 256 _ (b .0) in
     let columns = within-in 1 256 _ (d .0) in
     let channels = within-in 1 64 _ (f .0) in
-    let good = good-shape (pictureAt s) (rows .0) (columns .0) (channels .0) (size .0) in
+    let good = good-shape (pictureAt s) (rows .0) (columns .0) (channels .0) (omega (arith, channels .1)) (size .0) in
     let n = emptyNetwork (pictureAt s) (byteAt s 7) (byteAt s 8) (bytesOf (pictureAt s)) in
     record {
       left-all = omega arith;

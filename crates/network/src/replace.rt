@@ -65,13 +65,7 @@ fn add_record_fault(new: &[u8]) -> u8
     requires { ⌜ 22 ≤ length (now new) ⌝ }
     ensures { λ r. ⌜ r ≡ addRecordFault (now (new .entry)) ⌝ }
 {
-    let a = add_at(
-        new,
-        0,
-        u32_at(new, 6),
-        u32_at(new, 10),
-        u32_at(new, 14),
-    );
+    let a = add_at(new, 0, u32_at(new, 6), u32_at(new, 10), u32_at(new, 14));
     first_of(spare_fault(new[21]), add_fields(a))
 }
 
