@@ -1,0 +1,65 @@
+// What the bands need of a network.
+ghost use mathlib.Core.Path.{_≡_};
+ghost use Prim.Native.Nat.{ℕ, _+_, _≤_, _<_};
+ghost use Rattle.network.specs.Network.{layerOf, tensorOf};
+ghost use Rattle.checks.specs.Tensors.{tensorsOf, linkOf};
+use bands::reach::Link;
+use bands::state::Tensors;
+use network::net::Network;
+use network::net::layer;
+use network::net::tensor;
+use records::layer::Kind;
+
+// The rows of each tensor.
+pub fn tensors_of(n: Network) -> Tensors
+    requires { ⌜ ((t : ℕ) → tensorOf n t .rows ≤ 16384) ⌝ }
+    ensures { λ r. ⌜ r ≡ tensorsOf n ⌝ }
+{
+    let mut rows = [0u16; 17];
+    let mut t: usize = 0;
+    while t < 17 {
+        let s = tensor(n, t);
+        rows[t] = s.rows as u16;
+        t += 1;
+    }
+    Tensors {
+        count: n.count,
+        rows,
+    }
+}
+
+// How layer m hangs on its inputs.
+pub fn link_of(n: Network, m: usize) -> Link
+    requires { ⌜ (m < 16) × ((t : ℕ) → tensorOf n t .rows ≤ 16384) ⌝ }
+    requires { ⌜ layerOf n m .input .rows ≤ 16384 ⌝ }
+    ensures { λ r. ⌜ r ≡ linkOf n m ⌝ }
+{
+    let y = layer(n, m);
+    let input = y.input;
+    let output = y.output;
+    let rows = output.rows as u16;
+    let kind = y.kind;
+    match kind {
+        Kind::Convolution(c) => Link {
+            other: m,
+            before: c.padding as u16,
+            kernel: c.height as u16,
+            stride: c.stride as u16,
+            rows,
+        },
+        Kind::Fully(_) => Link {
+            other: m,
+            before: 0,
+            kernel: input.rows as u16,
+            stride: 1,
+            rows,
+        },
+        Kind::Addition(a) => Link {
+            other: a.other as usize,
+            before: 0,
+            kernel: 1,
+            stride: 1,
+            rows,
+        },
+    }
+}
