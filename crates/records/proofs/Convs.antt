@@ -66,4 +66,4 @@ conv-small i c k g = record {
 
 pub conv-good : (i : Shape) (c : Conv) → ConvOk c → bytesOf (convOutput i c) ≤ 16384 → GoodShape (convOutput i c)
 unfolding convOutput
-conv-good i c ok b = good-shape _ (omega arith) (omega arith) (ok .filters-some) b
+conv-good i c ok b = good-shape _ (omega arith) (omega arith) (ok .filters-some) (omega (arith, ok .filters-few)) b

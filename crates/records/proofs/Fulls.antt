@@ -25,4 +25,4 @@ full-ok f p =
 
 pub full-good : (f : Full) → FullOk f → bytesOf (fullOutput f) ≤ 16384 → GoodShape (fullOutput f)
 unfolding fullOutput
-full-good f ok b = good-shape _ (omega arith) (omega arith) (ok .outputs-some) b
+full-good f ok b = good-shape _ (omega arith) (omega arith) (ok .outputs-some) (ok .outputs-few) b

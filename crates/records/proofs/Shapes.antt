@@ -24,9 +24,9 @@ size-in s total p =
     (leb-true _ _ (q .0), leb-true _ _ (unless-none (leb (total + bytesOf s) 65536) 2 (q .1)))
 
 -- a shape with few bytes has few of each
-pub good-shape : (s : Shape) → 1 ≤ s .rows → 1 ≤ s .columns → 1 ≤ s .channels → bytesOf s ≤ 16384 → GoodShape s
+pub good-shape : (s : Shape) → 1 ≤ s .rows → 1 ≤ s .columns → 1 ≤ s .channels → s .channels ≤ 256 → bytesOf s ≤ 16384 → GoodShape s
 unfolding bytesOf
-good-shape s a b d h =
+good-shape s a b d few h =
     let rc = mul-le-mul-left (s .rows) b in
     let cr = mul-le-mul-right (s .columns) a in
     let e = mul-le-mul-left (s .rows * s .columns) d in
@@ -38,7 +38,7 @@ good-shape s a b d h =
       channels-some = d;
       rows-few = omega arith;
       columns-few = omega arith;
-      channels-few = omega arith;
+      channels-few = few;
       bytes-few = h;
     }
 

@@ -29,5 +29,5 @@ pub record GoodShape (s : Shape) : Type 0 where
   pub channels-some : 1 ≤ s .channels
   pub rows-few : s .rows ≤ 16384
   pub columns-few : s .columns ≤ 16384
-  pub channels-few : s .channels ≤ 16384
+  pub channels-few : s .channels ≤ 256
   pub bytes-few : bytesOf s ≤ 16384
