@@ -21,11 +21,25 @@ fn add_byte(a: Add, z: u8, zr: u8, q: u8, r: u8) -> u8
 {
     let first = lift(q, z, a.first.multiplier, a.first.shift);
     let second = lift(r, zr, a.second.multiplier, a.second.shift);
-    finish(sum(first, second, a.third.multiplier, a.third.shift), a.zero, a.low, a.high)
+    finish(
+        sum(first, second, a.third.multiplier, a.third.shift),
+        a.zero,
+        a.low,
+        a.high,
+    )
 }
 
 // Row i of an add of the tensors that stand in area from `from` and from `other`, to its place.
-pub fn add_row(y: Layer, a: Add, z: u8, zr: u8, area: &mut [u8], from: usize, other: usize, i: usize)
+pub fn add_row(
+    y: Layer,
+    a: Add,
+    z: u8,
+    zr: u8,
+    area: &mut [u8],
+    from: usize,
+    other: usize,
+    i: usize,
+)
     requires { ⌜ AddReady y a ⌝ }
     requires { ⌜ GoodShape (y .input) ⌝ }
     requires { ⌜ (from + bytesOf (y .input) ≤ y .place) × (other + bytesOf (y .input) ≤ y .place) × (y .place + bytesOf (y .output) ≤ length (now area)) ⌝ }

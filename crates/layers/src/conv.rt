@@ -116,7 +116,16 @@ fn gathered_row(
 }
 
 // Row i of a kernel of one cell with stride 1 and no padding: every window stands in the area as it is.
-fn plain_row(y: Layer, c: Conv, z: u8, file: &[u8], sums: &[u32], area: &mut [u8], from: usize, i: usize)
+fn plain_row(
+    y: Layer,
+    c: Conv,
+    z: u8,
+    file: &[u8],
+    sums: &[u32],
+    area: &mut [u8],
+    from: usize,
+    i: usize,
+)
     requires { ⌜ ConvReady y c (now file) (now sums) ⌝ }
     requires { ⌜ (GoodShape (y .input)) × (GoodShape (y .output)) ⌝ }
     requires { ⌜ (from + bytesOf (y .input) ≤ y .place) × (y .place + bytesOf (y .output) ≤ length (now area)) ⌝ }

@@ -40,7 +40,12 @@ fn output(o: Outputs, q: &[u8], w: &[u8], bytes: u32, bias: i32, stored: u32) ->
     ensures { λ r. ⌜ r ≡ finished (rescaled (totalOf bias (now (q .entry)) (now (w .entry)) stored (o .z) (o .v)) (o .scale .multiplier) (o .scale .shift)) (o .zero) (o .low) (o .high) ⌝ }
 {
     let a = total(bias, dot(q, w), bytes, stored, q.len() as u32, o.z, o.v);
-    finish(rescale(a, o.scale.multiplier, o.scale.shift), o.zero, o.low, o.high)
+    finish(
+        rescale(a, o.scale.multiplier, o.scale.shift),
+        o.zero,
+        o.low,
+        o.high,
+    )
 }
 
 // Output f at the window q, whose byte total is worked out once for all outputs.
@@ -72,7 +77,15 @@ pub fn put_outputs(o: Outputs, file: &[u8], sums: &[u32], q: &[u8], area: &mut [
 }
 
 // The same at a window that stands in the area itself, n bytes from `from`, so that nothing is gathered.
-pub fn put_within(o: Outputs, file: &[u8], sums: &[u32], area: &mut [u8], from: usize, n: usize, at: usize)
+pub fn put_within(
+    o: Outputs,
+    file: &[u8],
+    sums: &[u32],
+    area: &mut [u8],
+    from: usize,
+    n: usize,
+    at: usize,
+)
     requires { ⌜ OutputsReady o n (now file) (now sums) ⌝ }
     requires { ⌜ (from + n ≤ at) × (at + o .count ≤ length (now area)) ⌝ }
     ensures { λ _. ⌜ now (area .exit) ≡ pasted (now (area .entry)) at (outputsOf o (now (file .entry)) (now (sums .entry)) (part (now (area .entry)) from n)) ⌝ }
