@@ -1,0 +1,5 @@
+-- Laws that belong to no one function.
+pub mod Laid
+pub mod Rows
+pub mod Totals
+pub mod Weights
