@@ -1,4 +1,5 @@
 -- Laws that belong to no one function.
+pub mod Convs
 pub mod Laid
 pub mod Rows
 pub mod Totals

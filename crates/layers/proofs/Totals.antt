@@ -14,7 +14,7 @@ use Rattle.records.specs.Bytes.{i32At}
 use Rattle.windows.specs.Lists.{joined}
 use Rattle.windows.proofs.Bytes.{Bytes}
 use Rattle.windows.proofs.Pasted.{joined-length}
-use Rattle.layers.specs.Outputs.{weightsOf, outputOf, outputsOf}
+use Rattle.layers.specs.Outputs.{weightsOf, outputOf, outputsOf, OutputsReady}
 use Rattle.layers.specs.declared.outputs.Outputs.{Outputs}
 
 module _ (b : ℤ) (q w : List ℕ) (t z v : ℕ) {b′ : ℤ} {products bytes : ℕ} (eb : b′ ≡ b) (ep : products ≡ dot q w) (es : bytes ≡ sum q) where
@@ -34,6 +34,33 @@ module _ (b : ℤ) (q w : List ℕ) (t z v : ℕ) {b′ : ℤ} {products bytes :
       Sums products bytes t (length q) × (natAbs (totalFrom b′ products bytes t (length q) z v) ≤ 2139111424)
   total-ready hb e hn bq bw ht hz hv =
       rw (eb, ep, es) (sums q w t e hn bq bw ht, within b q w t z v hb e hn bq bw ht hz hv)
+
+-- what the file and the store must hold is the same for every zero-point of the input
+pub ready-any : (o : Outputs) (z n : ℕ) {file sums : List ℕ} → OutputsReady o n file sums → OutputsReady (record {
+  count = o .count;
+  biases = o .biases;
+  weights = o .weights;
+  sums = o .sums;
+  z = z;
+  v = o .v;
+  zero = o .zero;
+  low = o .low;
+  high = o .high;
+  scale = o .scale;
+}) n file sums
+ready-any o z n r = record {
+  count-few = r .count-few;
+  terms-few = r .terms-few;
+  file-few = r .file-few;
+  biases-in = r .biases-in;
+  weights-in = r .weights-in;
+  biases-small = r .biases-small;
+  sums-in = r .sums-in;
+  sums-small = r .sums-small;
+  clamp = r .clamp;
+  multiplier-few = r .multiplier-few;
+  shift-few = r .shift-few;
+}
 
 module _ (o : Outputs) (file sums q : List ℕ) where
   -- an output of the bias and the weights that the code finds

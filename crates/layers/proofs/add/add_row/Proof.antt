@@ -11,7 +11,7 @@ use Rattle.windows.specs.Lists.{pasted, part}
 use Rattle.layers.specs.Add.{addByte, addRow}
 use Rattle.layers.specs.Row.{rowBytes, tensorAt}
 use Rattle.layers.proofs.Laid.{Laid, laid-none, laid-store, laid-done, laid-at}
-use Rattle.layers.proofs.Rows.{row-in, row-skip, add-row-is}
+use Rattle.layers.proofs.Rows.{row-in, row-skip, add-done}
 use Rattle.layers.proofs.add.add_row.Statement.{statement}
 use Rattle.layers.proofs.add.add_row.Tie as tie
 
@@ -23,7 +23,7 @@ abbrev μ-loop : tie.MeasureT-loop
 μ-loop a z zr area₀ from other i w skip q r at k₀ area k = w - k
 
 -- the output has the input's shape
-good : (s : tie.Start) → GoodShape (s .args .y .output)
+good : (s : tie.Start Inv-loop μ-loop) → GoodShape (s .args .y .output)
 good s = rw (s .pre .0 .output) (s .pre .1 .0)
 
 times-requires : tie.Need-times-requires Inv-loop μ-loop
@@ -104,7 +104,8 @@ same-length c = c .before .loop .inv .same
 returns : tie.Need-returns Inv-loop μ-loop
 returns c =
     let a = c .before .before .before .before .before .before .before .args in
-    laid-done _ _ _ _ (c .before .loop .inv) (omega arith) ∙ ?
+    add-done (a .a) (a .z) (a .zr) (now (a .area)) (a .from) (a .other) (a .y .place) (bytesOf (a .y .input)) (a .i) (rowBytes (a .y .output))
+    (c .before .before .before .before .times .ensures .0) (c .before .before .before .times2 .ensures .0) (inside (c .before .before .before) .0) (laid-done _ _ _ _ (c .before .loop .inv) (omega arith))
 
 pub add-row-spec : {M : Type 1} → statement M
 add-row-spec =
