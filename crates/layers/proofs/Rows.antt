@@ -1,21 +1,28 @@
 -- The rows of a tensor.
 -- Assumes nothing.
-use mathlib.Core.Path.{_≡_, ap, ap₂, _∙_}
+use mathlib.Core.Path.{_≡_, refl, sym, ap, ap₂, _∙_}
 use mathlib.Core.List.{List, [], _∷_}
-use Prim.Native.Nat.{ℕ, _+_, _*_, _≤_, _<_}
-use native.Mathlib.Nat.{mul-le-mul-right}
+use Prim.Native.Nat.{ℕ, _+_, _-_, _*_, _≤_, _<_}
+use native.Mathlib.Nat.{mul-le-mul-right, mul-one}
 use native.Mathlib.Omega.{arith}
-use lib.ListN.{getD}
+use lib.ListN.{length, getD}
 use Rattle.records.specs.Shape.{bytesOf}
+use Rattle.records.specs.Conv.{convOutput}
 use Rattle.records.specs.Full.{fullOutput}
 use Rattle.records.specs.declared.shape.Shape.{Shape}
 use Rattle.records.specs.declared.full.Full.{Full}
 use Rattle.records.specs.declared.add.Add.{Add}
+use Rattle.records.specs.declared.layer.Kind.{Kind}
+use Rattle.records.specs.declared.layer.Kind.the-variants.{Convolution, Fully, Addition}
+use Rattle.records.specs.declared.layer.Layer.{Layer}
 use Rattle.windows.specs.Lists.{pasted, joined, part}
-use Rattle.windows.proofs.Pasted.{joined-same}
+use Rattle.windows.proofs.Pasted.{joined-length, joined-same}
+use Rattle.layers.specs.Conv.{convOutputs, convRow}
+use Rattle.layers.specs.Full.{fullOutputs}
 use Rattle.layers.specs.Add.{addByte, addRow}
-use Rattle.layers.specs.Row.{rowBytes}
-use Rattle.layers.proofs.Laid.{part-at}
+use Rattle.layers.specs.Row.{rowBytes, tensorAt, rowBy, rowOf, KindReady, Ready}
+use Rattle.layers.proofs.Laid.{Laid, part-at, laid-more, laid-before}
+use Rattle.layers.proofs.Totals.{outputs-length}
 
 -- a row stands within its tensor
 pub row-in : (s : Shape) (i : ℕ) → i < s .rows → i * rowBytes s + rowBytes s ≤ bytesOf s
@@ -25,6 +32,58 @@ row-in s i h = omega (arith, mul-le-mul-right {m = i + 1} {n = s .rows} (rowByte
 -- the same, with the numbers as the code has them
 pub row-skip : (s : Shape) (i : ℕ) {w skip : ℕ} → i < s .rows → w ≡ rowBytes s → skip ≡ i * w → skip + w ≤ bytesOf s
 row-skip s i h ew es = omega (arith, es ∙ ap (λ (m : ℕ). i * m) ew, row-in s i h)
+
+-- every row that a layer makes has the bytes of a row of its output
+length-by :
+    (kind : Kind) (y : Layer) (z z′ : ℕ) (file sums t t′ : List ℕ) (i : ℕ) →
+    KindReady kind y file sums →
+    length (rowBy kind y z z′ file sums t t′ i) ≡ rowBytes (y .output)
+unfolding convRow convOutput fullOutput addRow
+length-by (Convolution c) y z z′ file sums t t′ i r =
+    joined-length (y .output .columns) (c .filters) _ (λ j. outputs-length (convOutputs y c z) file sums _) ∙
+    ap (λ (n : ℕ). y .output .columns * n) (sym (ap (λ (s : Shape). s .channels) (r .output)))
+length-by (Fully f) y z z′ file sums t t′ i r = outputs-length (fullOutputs y f z) file sums t ∙ sym (ap rowBytes (r .output) ∙ omega arith)
+length-by (Addition a) y z z′ file sums t t′ i r = joined-length (rowBytes (y .output)) 1 _ (λ k. refl) ∙ mul-one (rowBytes (y .output))
+
+module _ (y : Layer) (z z′ : ℕ) (file sums area : List ℕ) (from other : ℕ) where
+  -- row i of the tensors that stand in the area
+  abbrev pub rowFrom : List ℕ → ℕ → List ℕ
+  rowFrom d i = rowOf y z z′ file sums (tensorAt d from (y .input)) (tensorAt d other (y .input)) i
+
+  -- one more row of a run, of the tensors that stand in the area before it
+  pub rows-turn :
+      (first end i : ℕ) {area₁ area₂ : List ℕ} →
+      Ready y file sums (length area) from other →
+      first ≤ i →
+      i < end →
+      end ≤ y .output .rows →
+      Laid (end - first) (λ k. rowFrom area (first + k)) area (y .place + first * rowBytes (y .output)) area₁ (i - first) →
+      area₂ ≡ pasted area₁ (y .place + i * rowBytes (y .output)) (rowFrom area₁ i) →
+      length area₂ ≡ length area₁ →
+      Laid (end - first) (λ k. rowFrom area (first + k)) area (y .place + first * rowBytes (y .output)) area₂ (i + 1 - first)
+  rows-turn first end i {area₁} {area₂} r hf hi he l e same =
+      let w = rowBytes (y .output) in
+      let at = y .place + first * w in
+      let there = row-in (y .output) i (omega arith) in
+      let before = mul-le-mul-right {m = first} {n = i} w hf in
+      let inside : at ≤ length area = omega (arith, r .within) in
+      let steps : i + 1 - first ≡ i - first + 1 = omega arith in
+      let row : first + (i - first) ≡ i = omega arith in
+      let place : y .place + i * w ≡ at + (i - first) * w = omega (arith, ap (λ (k : ℕ). k * w) row) in
+      let t = laid-before (end - first) _ area at from (bytesOf (y .input)) (omega (arith, r .before)) inside l in
+      let t′ = laid-before (end - first) _ area at other (bytesOf (y .input)) (omega (arith, r .other-before)) inside l in
+      rw steps
+      (laid-more (end - first) _ area at w (i - first) (λ k. length-by (y .kind) y z z′ file sums _ _ _ (r .kind)) inside (omega arith) place l
+      (e ∙ cc (t, t′, row)) same)
+
+-- ---- the rows of each kind
+
+-- a full layer has one row
+pub full-place : (y : Layer) (f : Full) (i : ℕ) → y .output ≡ fullOutput f → i < y .output .rows → y .place ≡ y .place + i * rowBytes (y .output)
+unfolding fullOutput
+full-place y f i e h =
+    let none : i ≡ 0 = omega (arith, ap (λ (s : Shape). s .rows) e) in
+    omega (arith, ap (λ (k : ℕ). k * rowBytes (y .output)) none)
 
 -- a full layer's output has a byte for each of its outputs
 pub full-bytes : (s : Shape) (f : Full) → s ≡ fullOutput f → bytesOf s ≡ f .outputs
