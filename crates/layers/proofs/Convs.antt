@@ -89,6 +89,12 @@ module _ (y : Layer) (c : Conv) {file sums : List ℕ} (r : ConvReady y c file s
   unfolding convOutput
   columns-are = ap (λ (s : Shape). s .columns) (r .output)
 
+  -- a window of one cell has a term for each channel
+  pub plain-ready : (z : ℕ) {o : Outputs} → c .height ≡ 1 → c .width ≡ 1 → o ≡ convOutputs y c z → OutputsReady o (y .input .channels) file sums
+  plain-ready z eh ew eo =
+      let n : c .height * c .width * y .input .channels ≡ y .input .channels = rw (eh, ew) (omega arith) in
+      rw (eo, ← n) (ready-any (convOutputs y c 0) z _ (r .outputs))
+
   module _ (g : GoodShape (y .input)) where
     pub row-at : (i : ℕ) → i < y .output .rows → i * c .stride ≤ 131072
     row-at i h = omega (arith, stride-in i _ _ (c .stride) rows-are h)

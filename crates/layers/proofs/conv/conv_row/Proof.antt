@@ -8,7 +8,7 @@ use Rattle.layers.proofs.conv.plain_row.Reads as plain-row-reads
 
 -- src/conv.rt:172:17
 plain-row-requires : tie.Need-plain-row-requires
-plain-row-requires c κs = ?
+plain-row-requires c κs = (c .before .before .before .before .before .before .before .before .before .before .before .pre .0, (c .before .before .before .before .before .before .before .before .before .before .before .pre .1 .0, (c .before .before .before .before .before .before .before .before .before .before .before .pre .1 .1 .0, (c .before .before .before .before .before .before .before .before .before .before .before .pre .1 .1 .1 .0, (c .before .before .before .before .before .if1 .taken, c .before .before .before .if2 .taken, c .before .if3 .taken)))))
 
 -- src/conv.rt:173:17
 same-length : tie.Need-same-length
