@@ -1,6 +1,6 @@
 -- The rows of a tensor.
 -- Assumes nothing.
-use mathlib.Core.Path.{_≡_, refl, sym, ap, ap₂, _∙_}
+use mathlib.Core.Path.{_≡_, refl, sym, ap, ap₂, subst, _∙_}
 use mathlib.Core.List.{List, [], _∷_}
 use Prim.Native.Nat.{ℕ, _+_, _-_, _*_, _≤_, _<_}
 use native.Mathlib.Nat.{mul-le-mul-right, mul-one}
@@ -45,14 +45,14 @@ length-by (Convolution c) y z z′ file sums t t′ i r =
 length-by (Fully f) y z z′ file sums t t′ i r = outputs-length (fullOutputs y f z) file sums t ∙ sym (ap rowBytes (r .output) ∙ omega arith)
 length-by (Addition a) y z z′ file sums t t′ i r = joined-length (rowBytes (y .output)) 1 _ (λ k. refl) ∙ mul-one (rowBytes (y .output))
 
-module _ (y : Layer) (z z′ : ℕ) (file sums area : List ℕ) (from other : ℕ) where
-  -- row i of the tensors that stand in the area
+module _ (y : Layer) (z z′ : ℕ) (file sums : List ℕ) (from other : ℕ) where
+  -- row i of the tensors that stand in an area
   abbrev pub rowFrom : List ℕ → ℕ → List ℕ
-  rowFrom d i = rowOf y z z′ file sums (tensorAt d from (y .input)) (tensorAt d other (y .input)) i
+  rowFrom area i = rowOf y z z′ file sums (tensorAt area from (y .input)) (tensorAt area other (y .input)) i
 
   -- one more row of a run, of the tensors that stand in the area before it
   pub rows-turn :
-      (first end i : ℕ) {area₁ area₂ : List ℕ} →
+      (area : List ℕ) (first end i : ℕ) {area₁ area₂ : List ℕ} →
       Ready y file sums (length area) from other →
       first ≤ i →
       i < end →
@@ -61,7 +61,7 @@ module _ (y : Layer) (z z′ : ℕ) (file sums area : List ℕ) (from other : �
       area₂ ≡ pasted area₁ (y .place + i * rowBytes (y .output)) (rowFrom area₁ i) →
       length area₂ ≡ length area₁ →
       Laid (end - first) (λ k. rowFrom area (first + k)) area (y .place + first * rowBytes (y .output)) area₂ (i + 1 - first)
-  rows-turn first end i {area₁} {area₂} r hf hi he l e same =
+  rows-turn area first end i {area₁} {area₂} r hf hi he l e same =
       let w = rowBytes (y .output) in
       let at = y .place + first * w in
       let there = row-in (y .output) i (omega arith) in
@@ -77,6 +77,14 @@ module _ (y : Layer) (z z′ : ℕ) (file sums area : List ℕ) (from other : �
       (e ∙ cc (t, t′, row)) same)
 
 -- ---- the rows of each kind
+
+-- what a layer needs, and its rows, by its kind
+module _ (y : Layer) (kind : Kind) (e : y .kind ≡ kind) where
+  pub ready-as : {file sums : List ℕ} {room from other : ℕ} → Ready y file sums room from other → KindReady kind y file sums
+  ready-as {file} {sums} r = subst (λ k. KindReady k y file sums) e (r .kind)
+
+  pub row-as : (z z′ : ℕ) (file sums t t′ : List ℕ) (i : ℕ) → rowBy kind y z z′ file sums t t′ i ≡ rowOf y z z′ file sums t t′ i
+  row-as z z′ file sums t t′ i = ap (λ k. rowBy k y z z′ file sums t t′ i) (sym e)
 
 -- a full layer has one row
 pub full-place : (y : Layer) (f : Full) (i : ℕ) → y .output ≡ fullOutput f → i < y .output .rows → y .place ≡ y .place + i * rowBytes (y .output)

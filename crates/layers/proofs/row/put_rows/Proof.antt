@@ -1,46 +1,57 @@
+-- `layers::row::put_rows` meets its contract. The loop's invariant: the rows from first up to i are laid from the first's place.
+-- Assumes nothing.
+use mathlib.Core.Path.{_≡_, _∙_}
+use Prim.Native.Nat.{_+_, _*_, _-_, _≤_}
+use native.Mathlib.Omega.{arith}
+use denote.Ref.{now}
+use lib.ListN.{length}
+use Rattle.layers.specs.Row.{rowBytes}
+use Rattle.layers.proofs.Laid.{Laid, laid-none, laid-done}
+use Rattle.layers.proofs.Rows.{rowFrom, rows-turn}
 use Rattle.layers.proofs.row.put_rows.Statement.{statement}
 use Rattle.layers.proofs.row.put_rows.Tie as tie
-use Rattle.layers.proofs.row.put_rows.Reads as reads
-use Rattle.layers.proofs.row.put_rows.Lts as lts
-use Rattle.layers.proofs.row.put_row.Reads as put-row-reads
 
 abbrev Inv-loop : tie.InvT-loop
-Inv-loop y z zr file sums area₀ patch₀ from other first end i₀ area patch i = ?
+Inv-loop y z zr file sums area₀ patch₀ from other first end i₀ area patch i =
+    (first ≤ i) ×
+    Laid (end - first) (λ k. rowFrom y z zr file sums from other area₀ (first + k)) area₀ (y .place + first * rowBytes (y .output)) area (i - first) ×
+    (length patch ≡ length patch₀)
 
 abbrev μ-loop : tie.MeasureT-loop
-μ-loop y z zr file sums area₀ patch₀ from other first end i₀ area patch i = ?
+μ-loop y z zr file sums area₀ patch₀ from other first end i₀ area patch i = end - i
 
--- src/row.rt:58:5
 loop-holds : tie.Need-loop-holds Inv-loop μ-loop
-loop-holds c = ?
+loop-holds c =
+    let none : c .before .before .before .before .args .first - c .before .before .before .before .args .first ≡ 0 = omega arith in
+    (omega arith, rw none (laid-none _ _ _ _), omega arith)
 
--- src/row.rt:59:9
 put-row-requires : tie.Need-put-row-requires Inv-loop μ-loop
-put-row-requires c κs = ?
+put-row-requires c κs = (rw (c .before .before .before .loop .inv .1 .same) (c .before .before .before .before .before .before .before .before .pre .0), (omega (arith, c .before .before .before .before .before .before .before .before .pre .1), omega (arith, c .before .before .before .before .before .before .before .before .pre .1, c .before .before .before .loop .inv .2)))
 
--- src/row.rt:60:9
 add-i : tie.Need-add-i Inv-loop μ-loop
-add-i c = ?
+add-i c = omega arith
 
--- src/row.rt:58:5
 loop-less : tie.Need-loop-less Inv-loop μ-loop
-loop-less c = ?
+loop-less c = omega arith
 
--- src/row.rt:58:5
 loop-again : tie.Need-loop-again Inv-loop μ-loop
-loop-again c = ?
+loop-again c =
+    let s = c .before .before .before .before .before .before .before .before .before .before .before .before .before in
+    let a = s .args in (
+      omega (arith, c .before .before .before .before .before .before .before .before .loop .inv .0),
+      rows-turn (a .y) (a .z) (a .zr) (now (a .file)) (now (a .sums)) (a .from) (a .other) (now (a .area)) (a .first) (a .end) (c .before .before .before .before .before .before .before .before .loop .i)
+          (s .pre .0) (c .before .before .before .before .before .before .before .before .loop .inv .0) (c .before .before .before .before .before .before .before .loop-test .taken) (s .pre .1 .1) (c .before .before .before .before .before .before .before .before .loop .inv .1) (c .before .before .before .before .put-row .ensures) (c .before .before .before .before .put-row .kept .1 .1 .1 .1 .1 .0),
+      c .before .before .before .before .put-row .kept .1 .1 .1 .1 .1 .1 .0 ∙ c .before .before .before .before .before .before .before .before .loop .inv .2,
+    )
 
--- src/row.rt:40:1
 same-length : tie.Need-same-length Inv-loop μ-loop
-same-length c = ?
+same-length c = c .before .loop .inv .1 .same
 
--- src/row.rt:40:1
 same-length-2 : tie.Need-same-length-2 Inv-loop μ-loop
-same-length-2 c = ?
+same-length-2 c = c .before .loop .inv .2
 
--- src/row.rt:40:1
 returns : tie.Need-returns Inv-loop μ-loop
-returns c = ?
+returns c = laid-done _ _ _ _ (c .before .loop .inv .1) (omega arith)
 
 pub put-rows-spec : {M : Type 1} → statement M
 put-rows-spec =
