@@ -30,15 +30,16 @@ times-requires : tie.Need-times-requires Inv-loop μ-loop
 times-requires c κs = omega (arith, good (c .before .before))
 
 times-requires-2 : tie.Need-times-requires-2 Inv-loop μ-loop
-times-requires-2 c κs = omega (arith, good (c .before .before .before), row-in (c .before .before .before .args .y .output) (c .before .before .before .args .i) (c .before .before .before .pre .1 .1 .1))
+times-requires-2 c κs = let s = c .before .before .before in omega (arith, good s, row-in (s .args .y .output) (s .args .i) (s .pre .1 .1 .1))
 
 -- the row stands in each tensor
 inside :
     (c : tie.After-times2 Inv-loop μ-loop) →
     (c .times2 .result + c .before .times .result ≤ bytesOf (c .before .before .before .before .args .y .input)) × (c .times2 .result + c .before .times .result ≤ bytesOf (c .before .before .before .before .args .y .output))
 inside c =
-    let h = row-skip (c .before .before .before .before .args .y .output) (c .before .before .before .before .args .i) (c .before .before .before .before .pre .1 .1 .1) (c .before .times .ensures .0) (c .times2 .ensures .0) in
-    (rw (c .before .before .before .before .pre .0 .output) at h, h)
+    let s = c .before .before .before .before in
+    let h = row-skip (s .args .y .output) (s .args .i) (s .pre .1 .1 .1) (c .before .times .ensures .0) (c .times2 .ensures .0) in
+    (rw (s .pre .0 .output) at h, h)
 
 add-q : tie.Need-add-q Inv-loop μ-loop
 add-q c = omega (arith, inside c)
@@ -85,27 +86,34 @@ kept :
     from + bytesOf (c .before .before .before .before .before .before .before .args .y .input) ≤ c .before .before .before .before .before .before .before .args .y .place →
     getD (c .before .loop .area) (from + c .before .before .before .times2 .result + c .before .loop .k) 0 ≡ getD (now (c .before .before .before .before .before .before .before .args .area)) (from + c .before .before .before .times2 .result + c .before .loop .k) 0
 kept c from h =
-    let i = inside (c .before .before .before) in
-    laid-at _ _ (now (c .before .before .before .before .before .before .before .args .area)) (c .before .before .before .before .before .before .before .args .y .place + c .before .before .before .times2 .result) (from + c .before .before .before .times2 .result + c .before .loop .k) (omega arith) (omega arith) (c .before .loop .inv)
+    let t = c .before .before .before in
+    let a = t .before .before .before .before .args in
+    let skip = t .times2 .result in
+    let i = inside t in
+    laid-at _ _ (now (a .area)) (a .y .place + skip) (from + skip + c .before .loop .k) (omega arith) (omega arith) (c .before .loop .inv)
 
 loop-again : tie.Need-loop-again Inv-loop μ-loop
 loop-again c =
-    let s = c .before .before .before .before .before .before .before .before .before .before in
+    let l = c .before .before .before in
+    let t = l .before .before .before in
+    let s = l .before .before .before .before .before .before .before in
     let a = s .args in
-    let skip = c .before .before .before .before .before .before .times2 .result in
+    let skip = t .times2 .result in
     let d = now (a .area) in
-    laid-store (c .before .before .before .before .before .before .before .times .result) (λ j. addByte (a .a) (a .z) (a .zr) (getD d (a .from + skip + j) 0) (getD d (a .other + skip + j) 0)) d (a .y .place + skip) (c .before .before .before .before .loop .k)
-    (omega (arith, inside (c .before .before .before .before .before .before))) (c .before .before .before .loop-test .taken) (c .before .before .before .before .loop .inv)
-    (c .add-byte .ensures ∙ ap₂ (addByte (a .a) (a .z) (a .zr)) (kept (c .before .before .before) (a .from) (s .pre .1 .1 .0 .0)) (kept (c .before .before .before) (a .other) (s .pre .1 .1 .0 .1)))
+    let byte = addByte (a .a) (a .z) (a .zr) in
+    laid-store (t .before .times .result) (λ j. byte (getD d (a .from + skip + j) 0) (getD d (a .other + skip + j) 0)) d (a .y .place + skip) (l .before .loop .k)
+    (omega (arith, inside t)) (l .loop-test .taken) (l .before .loop .inv)
+    (c .add-byte .ensures ∙ ap₂ byte (kept l (a .from) (s .pre .1 .1 .0 .0)) (kept l (a .other) (s .pre .1 .1 .0 .1)))
 
 same-length : tie.Need-same-length Inv-loop μ-loop
 same-length c = c .before .loop .inv .same
 
 returns : tie.Need-returns Inv-loop μ-loop
 returns c =
-    let a = c .before .before .before .before .before .before .before .args in
+    let t = c .before .before .before in
+    let a = t .before .before .before .before .args in
     add-done (a .a) (a .z) (a .zr) (now (a .area)) (a .from) (a .other) (a .y .place) (bytesOf (a .y .input)) (a .i) (rowBytes (a .y .output))
-    (c .before .before .before .before .times .ensures .0) (c .before .before .before .times2 .ensures .0) (inside (c .before .before .before) .0) (laid-done _ _ _ _ (c .before .loop .inv) (omega arith))
+    (t .before .times .ensures .0) (t .times2 .ensures .0) (inside t .0) (laid-done _ _ _ _ (c .before .loop .inv) (omega arith))
 
 pub add-row-spec : {M : Type 1} → statement M
 add-row-spec =

@@ -37,50 +37,60 @@ cast-stride : tie.Need-cast-stride Inv-loop μ-loop
 cast-stride c = omega (arith, c .before .before .before .before .before .before .before .before .pre .0 .ok)
 
 times-requires : tie.Need-times-requires Inv-loop μ-loop
-times-requires c κs = omega (arith, c .before .before .before .before .before .before .before .before .pre .0 .ok, c .before .before .before .before .before .before .before .before .pre .1)
+times-requires c κs = let s = c .before .before .before .before .before .before .before .before in omega (arith, s .pre .0 .ok, s .pre .1)
 
 -- the filters are the output's channels
 filters : (c : tie.After-conv-outputs Inv-loop μ-loop) → c .conv-outputs .result .count ≡ c .before .before .before .before .before .before .args .y .output .channels
-filters c = ap (λ (o : Outputs). o .count) (c .conv-outputs .ensures) ∙ sym (filters-are (c .before .before .before .before .before .before .args .y) (c .before .before .before .before .before .before .args .c) (c .before .before .before .before .before .before .pre .0))
+filters c = let s = c .before .before .before .before .before .before in ap (λ (o : Outputs). o .count) (c .conv-outputs .ensures) ∙ sym (filters-are (s .args .y) (s .args .c) (s .pre .0))
 
 times-requires-2 : tie.Need-times-requires-2 Inv-loop μ-loop
 times-requires-2 c κs = omega (arith, c .before .before .before .before .before .before .before .before .before .pre .1, filters (c .before .before .before))
 
 -- the bytes of a row
 line : (c : tie.After-times2 Inv-loop μ-loop) → c .times2 .result ≡ rowBytes (c .before .before .before .before .before .before .before .before .before .before .args .y .output)
-line c = c .times2 .ensures .0 ∙ ap (λ (n : ℕ). c .before .before .before .before .before .before .before .before .before .before .args .y .output .columns * n) (filters (c .before .before .before .before))
+line c = let y = c .before .before .before .before .before .before .before .before .before .before .args .y in c .times2 .ensures .0 ∙ ap (λ (n : ℕ). y .output .columns * n) (filters (c .before .before .before .before))
 
 times-requires-3 : tie.Need-times-requires-3 Inv-loop μ-loop
-times-requires-3 c κs = omega (arith, c .before .before .before .before .before .before .before .before .before .before .pre .1, line c, row-in (c .before .before .before .before .before .before .before .before .before .before .args .y .output) (c .before .before .before .before .before .before .before .before .before .before .args .i) (c .before .before .before .before .before .before .before .before .before .before .pre .1 .1 .1 .0))
+times-requires-3 c κs = let s = c .before .before .before .before .before .before .before .before .before .before in omega (arith, s .pre .1, line c, row-in (s .args .y .output) (s .args .i) (s .pre .1 .1 .1 .0))
 
 -- the row stands in the output
 inside : (c : tie.After-times3 Inv-loop μ-loop) → c .times3 .result + c .before .times2 .result ≤ bytesOf (c .before .before .before .before .before .before .before .before .before .before .before .args .y .output)
-inside c = row-skip (c .before .before .before .before .before .before .before .before .before .before .before .args .y .output) (c .before .before .before .before .before .before .before .before .before .before .before .args .i) (c .before .before .before .before .before .before .before .before .before .before .before .pre .1 .1 .1 .0) (line (c .before)) (c .times3 .ensures .0)
+inside c = let s = c .before .before .before .before .before .before .before .before .before .before .before in row-skip (s .args .y .output) (s .args .i) (s .pre .1 .1 .1 .0) (line (c .before)) (c .times3 .ensures .0)
 
 add-at : tie.Need-add-at Inv-loop μ-loop
-add-at c = omega (arith, c .before .before .before .before .before .before .before .before .before .before .before .before .pre .1, c .before .before .before .before .before .before .before .before .before .before .before .before .good, inside (c .before))
+add-at c = let t = c .before in let s = t .before .before .before .before .before .before .before .before .before .before .before in omega (arith, s .pre .1, s .good, inside t)
 
 loop-holds : tie.Need-loop-holds Inv-loop μ-loop
 loop-holds c = (omega arith, omega arith, laid-none _ _ _ _, omega arith)
 
 -- the place that is next has room in the row
 next : (c : tie.In-loop Inv-loop μ-loop) → c .before .loop .at + c .before .before .before .before .before .before .before .before .conv-outputs .result .count ≤ length (now (c .before .before .before .before .before .before .before .before .before .before .before .before .before .before .args .area))
-next c = 
-    room (c .before .loop .j) (c .before .before .before .before .before .before .before .before .before .before .before .before .before .before .args .y .output .columns) (c .before .before .before .before .before .before .before .before .conv-outputs .result .count) (c .before .before .before .before .before .before .before .before .before .before .before .before .before .before .args .y .place + c .before .before .before .times3 .result) (c .before .loop .inv .0) (c .loop-test .taken)
-    (omega (arith, c .before .before .before .before .before .before .before .before .before .before .before .before .before .before .pre .1 .1 .0, inside (c .before .before .before), c .before .before .before .before .times2 .ensures .0))
+next c =
+    let s = c .before .before .before .before .before .before .before .before .before .before .before .before .before .before in
+    let y = s .args .y in
+    let o = c .before .before .before .before .before .before .before .before .conv-outputs .result in
+    let t = c .before .before .before in
+    room (c .before .loop .j) (y .output .columns) (o .count) (y .place + t .times3 .result) (c .before .loop .inv .0) (c .loop-test .taken)
+    (omega (arith, s .pre .1 .1 .0, inside t, t .before .times2 .ensures .0))
 
 conv-place-requires : tie.Need-conv-place-requires Inv-loop μ-loop
 conv-place-requires c κs =
-    let s = c .before .before .before .before .before .before .before .before .before .before .before .before .before .before .before .before in
+    let l = c .before .before in
+    let v = l .before .loop .inv in
+    let s = l .before .before .before .before .before .before .before .before .before .before .before .before .before .before in
     let a = s .args in
-    place-ready (a .y) (a .c) (s .pre .0) (s .pre .1 .0 .0) (a .z) (a .i) (c .before .before .before .loop .j) (a .from) (c .before .before .before .before .before .before .before .before .before .before .before .window-for .ensures) (c .before .before .before .before .before .before .before .before .before .before .conv-outputs .ensures)
-    (s .pre .1 .1 .1 .0) (c .before .before .loop-test .taken) (c .before .before .before .before .before .before .before .times .ensures .0) (c .before .before .before .loop .inv .1) (omega (arith, c .before .before .before .loop .inv .0, s .pre .1 .1 .0)) (omega (arith, next (c .before .before), c .before .before .before .loop .inv .2 .same)) (omega (arith, c .before .before .before .loop .inv .3, s .pre .1 .1 .1 .1))
+    let h = s .pre .1 in
+    place-ready (a .y) (a .c) (s .pre .0) (h .0 .0) (a .z) (a .i) (l .before .loop .j) (a .from) (l .before .before .before .before .before .before .before .before .before .window-for .ensures) (l .before .before .before .before .before .before .before .before .conv-outputs .ensures)
+    (h .1 .1 .0) (l .loop-test .taken) (l .before .before .before .before .before .times .ensures .0) (v .1) (omega (arith, v .0, h .1 .0)) (omega (arith, next l, v .2 .same)) (omega (arith, v .3, h .1 .1))
 
 add-at-2 : tie.Need-add-at-2 Inv-loop μ-loop
-add-at-2 c = omega (arith, c .before .before .before .before .before .before .before .before .before .before .before .before .before .before .before .before .before .before .before .before .before .good, next (c .before .before .before .before .before .before .before))
+add-at-2 c = let l = c .before .before .before .before .before .before .before in omega (arith, l .before .before .before .before .before .before .before .before .before .before .before .before .before .before .good, next l)
 
 add-q : tie.Need-add-q Inv-loop μ-loop
-add-q c = omega (arith, c .before .before .before .before .before .before .before .before .before .before .before .before .before .before .before .before .before .before .before .before .before .pre .0 .ok, c .before .before .before .before .before .before .before .before .before .before .before .before .before .before .before .before .before .before .before .before .before .pre .1, column-at (c .before .before .before .before .before .before .before .before .before .before .before .before .before .before .before .before .before .before .before .before .before .args .y) (c .before .before .before .before .before .before .before .before .before .before .before .before .before .before .before .before .before .before .before .before .before .args .c) (c .before .before .before .before .before .before .before .before .before .before .before .before .before .before .before .before .before .before .before .before .before .pre .0) (c .before .before .before .before .before .before .before .before .before .before .before .before .before .before .before .before .before .before .before .before .before .pre .1 .0 .0) (c .before .before .before .before .before .before .before .before .loop .j) (c .before .before .before .before .before .before .before .loop-test .taken))
+add-q c =
+    let l = c .before .before .before .before .before .before .before in
+    let s = l .before .before .before .before .before .before .before .before .before .before .before .before .before .before in
+    omega (arith, s .pre .0 .ok, s .pre .1, column-at (s .args .y) (s .args .c) (s .pre .0) (s .pre .1 .0 .0) (l .before .loop .j) (l .loop-test .taken))
 
 add-j : tie.Need-add-j Inv-loop μ-loop
 add-j c = omega arith
@@ -89,16 +99,23 @@ loop-less : tie.Need-loop-less Inv-loop μ-loop
 loop-less c = omega arith
 
 loop-again : tie.Need-loop-again Inv-loop μ-loop
-loop-again c = 
-    let s = c .before .before .before .before .before .before .before .before .before .before .before .before .before .before .before .before .before .before .before .before .before in
+loop-again c =
+    let l = c .before .before .before .before .before .before .before in
+    let v = l .before .loop .inv in
+    let w = l .before .before .before .before .before .before .before .before .before .window-for in
+    let o = l .before .before .before .before .before .before .before .before .conv-outputs in
+    let t = l .before .before .before in
+    let s = l .before .before .before .before .before .before .before .before .before .before .before .before .before .before in
     let a = s .args in
-    let tensor : sizeOf (c .before .before .before .before .before .before .before .before .before .before .before .before .before .before .before .before .window-for .result) ≡ bytesOf (a .y .input) = size-is (a .y) (a .c) (a .z) (c .before .before .before .before .before .before .before .before .before .before .before .before .before .before .before .before .window-for .ensures) in (
-      omega (arith, c .before .before .before .before .before .before .before .before .loop .inv .0),
-      omega (arith, c .before .before .before .before .before .before .before .before .loop .inv .1),
-      place-turn (c .before .before .before .before .before .before .before .before .before .before .before .before .before .before .before .before .window-for .result) (c .before .before .before .before .before .before .before .before .before .before .before .before .before .before .before .conv-outputs .result) (now (a .file)) (now (a .sums)) (now (a .area)) (a .y .output .columns) (a .from) (a .y .place + c .before .before .before .before .before .before .before .before .before .before .times3 .result) (c .before .before .before .before .before .before .before .before .before .before .before .before .times .result) (a .c .stride) (c .before .before .before .before .before .before .before .before .loop .j)
-          (omega (arith, s .pre .1 .1 .0)) (omega (arith, s .pre .1 .1 .0, inside (c .before .before .before .before .before .before .before .before .before .before))) (c .before .before .before .before .before .before .before .loop-test .taken) (c .before .before .before .before .before .before .before .before .loop .inv .0) (c .before .before .before .before .before .before .before .before .loop .inv .1) (c .before .before .before .before .before .before .before .before .loop .inv .2)
-          (c .before .before .before .before .conv-place .ensures) (c .before .before .before .before .conv-place .kept .1 .1 .1 .1 .0),
-      c .before .before .before .before .conv-place .kept .1 .1 .1 .1 .1 .0 ∙ c .before .before .before .before .before .before .before .before .loop .inv .3,
+    let h = s .pre .1 .1 .0 in
+    let to = a .y .place + t .times3 .result in
+    let place = c .before .before .before .before .conv-place in
+    let tensor : sizeOf (w .result) ≡ bytesOf (a .y .input) = size-is (a .y) (a .c) (a .z) (w .ensures) in (
+      omega (arith, v .0),
+      omega (arith, v .1),
+      place-turn (w .result) (o .result) (now (a .file)) (now (a .sums)) (now (a .area)) (a .y .output .columns) (a .from) to (t .before .before .times .result) (a .c .stride) (l .before .loop .j)
+          (omega (arith, h)) (omega (arith, h, inside t)) (l .loop-test .taken) (v .0) (v .1) (v .2) (place .ensures) (place .kept .1 .1 .1 .1 .0),
+      place .kept .1 .1 .1 .1 .1 .0 ∙ v .3,
     )
 
 same-length : tie.Need-same-length Inv-loop μ-loop
@@ -109,9 +126,10 @@ same-length-2 c = c .before .loop .inv .3
 
 returns : tie.Need-returns Inv-loop μ-loop
 returns c =
-    let a = c .before .before .before .before .before .before .before .before .before .before .before .before .before .before .args in
-    conv-done (a .y) (a .c) (a .z) (now (a .file)) (now (a .sums)) (now (a .area)) (a .from) (a .i) (c .before .before .before .before .before .before .before .before .before .window-for .ensures) (c .before .before .before .before .before .before .before .before .conv-outputs .ensures)
-    (c .before .before .before .before .before .times .ensures .0) (line (c .before .before .before .before)) (c .before .before .before .times3 .ensures .0) (laid-done _ _ _ _ (c .before .loop .inv .2) (omega arith))
+    let t = c .before .before .before in
+    let a = t .before .before .before .before .before .before .before .before .before .before .before .args in
+    conv-done (a .y) (a .c) (a .z) (now (a .file)) (now (a .sums)) (now (a .area)) (a .from) (a .i) (t .before .before .before .before .before .before .window-for .ensures) (t .before .before .before .before .before .conv-outputs .ensures)
+    (t .before .before .times .ensures .0) (line (t .before)) (t .times3 .ensures .0) (laid-done _ _ _ _ (c .before .loop .inv .2) (omega arith))
 
 pub gathered-row-spec : {M : Type 1} → statement M
 gathered-row-spec =

@@ -1,3 +1,5 @@
+-- `layers::outputs::output` meets its contract: the total of bytes fits 32 bits, and so does what it is rescaled to.
+-- Assumes nothing.
 use mathlib.Core.Path.{_∙_, ap}
 use native.Mathlib.Omega.{arith}
 use borrow.Author.Needs.{needs, sfits-of}
@@ -9,22 +11,13 @@ use Rattle.numbers.specs.Finish.{finished}
 use Rattle.layers.proofs.Totals.{total-is, total-ready}
 use Rattle.layers.proofs.outputs.output.Statement.{statement}
 use Rattle.layers.proofs.outputs.output.Tie as tie
-use Rattle.layers.proofs.outputs.output.Reads as reads
-use Rattle.layers.proofs.outputs.output.Lts as lts
-use Rattle.numbers.proofs.finish.finish.Reads as finish-reads
-use Rattle.numbers.proofs.rescale.rescale.Reads as rescale-reads
-use Rattle.numbers.proofs.total.total.Reads as total-reads
-use Rattle.windows.proofs.sums.dot.Reads as dot-reads
 
--- src/outputs.rt:42:25
 dot-requires : tie.Need-dot-requires
 dot-requires c κs = search needs
 
--- src/outputs.rt:42:51
 cast-total : tie.Need-cast-total
 cast-total c = search needs
 
--- src/outputs.rt:42:9
 total-requires : tie.Need-total-requires
 total-requires c κs =
     let s = c .before .before .before in
@@ -35,15 +28,12 @@ total-requires c κs =
     (λ i. omega (arith, c .before .before .shared-slice-known .given i)) (λ i. omega (arith, c .before .shared-slice-known2 .given i))
     (s .pre .1 .0 .1) (omega arith) (omega arith)
 
--- src/outputs.rt:44:9
 rescale-requires : tie.Need-rescale-requires
 rescale-requires c κs = search needs
 
--- src/outputs.rt:43:5
 finish-requires : tie.Need-finish-requires
 finish-requires c κs = search needs
 
--- src/outputs.rt:36:1
 returns : tie.Need-returns
 returns c =
     let s = c .before .before .before .before .before .before in

@@ -38,9 +38,11 @@ loop-less c = omega arith
 
 loop-again : tie.Need-loop-again Inv-loop μ-loop
 loop-again c =
-    let a = c .before .before .before .before .before .before .before .before .args in
-    laid-store (a .o .count) (outputOf (a .o) (now (a .file)) (now (a .sums)) (now (a .q))) (now (a .area)) (a .at) (c .before .before .loop .f)
-    (c .before .before .before .before .before .before .before .before .pre .1) (c .before .loop-test .taken) (c .before .before .loop .inv) (c .output-at .ensures)
+    let l = c .before in
+    let s = l .before .before .before .before .before .before .before in
+    let a = s .args in
+    laid-store (a .o .count) (outputOf (a .o) (now (a .file)) (now (a .sums)) (now (a .q))) (now (a .area)) (a .at) (l .before .loop .f)
+    (s .pre .1) (l .loop-test .taken) (l .before .loop .inv) (c .output-at .ensures)
 
 same-length : tie.Need-same-length Inv-loop μ-loop
 same-length c = c .before .loop .inv .same

@@ -2,10 +2,9 @@
 -- Assumes nothing.
 use mathlib.Core.Path.{_≡_, sym, ap, _∙_}
 use mathlib.Core.List.{List, [], _∷_}
-use Prim.Native.Nat.{_+_, _-_}
+use Prim.Native.Nat.{ℕ, _+_, _-_}
 use native.Mathlib.Omega.{arith}
 use denote.Ref.{now}
-use lib.ListN.{length}
 use Rattle.numbers.specs.Total.{sum}
 use Rattle.windows.specs.Lists.{part}
 use Rattle.windows.proofs.Pasted.{part-length}
@@ -34,7 +33,10 @@ part-byte-total-end : tie.Need-part-byte-total-end Inv-loop μ-loop
 part-byte-total-end c = omega arith
 
 byte-total-requires : tie.Need-byte-total-requires Inv-loop μ-loop
-byte-total-requires c κs = rw (cut-length (now (c .before .before .before .before .before .args .area)) (c .before .before .before .before .before .args .from) (c .before .before .before .before .before .args .n) (omega arith)) (c .before .before .before .before .before .pre .0 .terms-few)
+byte-total-requires c κs =
+    let s = c .before .before .before .before .before in
+    let a = s .args in
+    rw (cut-length (now (a .area)) (a .from) (a .n) (omega arith)) (s .pre .0 .terms-few)
 
 loop-holds : tie.Need-loop-holds Inv-loop μ-loop
 loop-holds c = laid-none _ _ _ _
@@ -53,14 +55,17 @@ window :
     (c : tie.At-loop Inv-loop μ-loop) →
     part (c .loop .area) (c .before .before .before .before .before .before .before .args .from) (c .before .before .before .before .before .before .before .args .from + c .before .before .before .before .before .before .before .args .n - c .before .before .before .before .before .before .before .args .from) ≡ part (now (c .before .before .before .before .before .before .before .args .area)) (c .before .before .before .before .before .before .before .args .from) (c .before .before .before .before .before .before .before .args .n)
 window c =
-    cut-is _ (c .before .before .before .before .before .before .before .args .from) (c .before .before .before .before .before .before .before .args .n) ∙ laid-before _ _ (now (c .before .before .before .before .before .before .before .args .area)) (c .before .before .before .before .before .before .before .args .at) (c .before .before .before .before .before .before .before .args .from) (c .before .before .before .before .before .before .before .args .n) (omega arith) (omega arith) (c .loop .inv)
+    let a = c .before .before .before .before .before .before .before .args in
+    cut-is _ (a .from) (a .n) ∙ laid-before _ _ (now (a .area)) (a .at) (a .from) (a .n) (omega arith) (omega arith) (c .loop .inv)
 
 output-at-requires : tie.Need-output-at-requires Inv-loop μ-loop
 output-at-requires c κs =
-    let a = c .before .before .before .before .before .before .before .before .before .before .args in
-    let e = window (c .before .before .before) in
+    let l = c .before .before in
+    let s = l .before .before .before .before .before .before .before .before in
+    let a = s .args in
+    let e = window (l .before) in
     let n = part-length (now (a .area)) (a .from) (a .n) (omega arith) in
-    (rw e (rw n (c .before .before .before .before .before .before .before .before .before .before .pre .0)), (c .before .before .loop-test .taken, c .before .before .before .before .byte-total .ensures .0 ∙ ap sum (cut-is (now (a .area)) (a .from) (a .n) ∙ sym e)))
+    (rw e (rw n (s .pre .0)), (l .loop-test .taken, l .before .before .byte-total .ensures .0 ∙ ap sum (cut-is (now (a .area)) (a .from) (a .n) ∙ sym e)))
 
 add-area : tie.Need-add-area Inv-loop μ-loop
 add-area c = omega arith
@@ -76,10 +81,15 @@ loop-less c = omega arith
 
 loop-again : tie.Need-loop-again Inv-loop μ-loop
 loop-again c =
-    let a = c .before .before .before .before .before .before .before .before .before .before .before .args in
-    laid-store (a .o .count) (outputOf (a .o) (now (a .file)) (now (a .sums)) (part (now (a .area)) (a .from) (a .n))) (now (a .area)) (a .at) (c .before .before .before .before .loop .f)
-    (omega arith) (c .before .before .before .loop-test .taken) (c .before .before .before .before .loop .inv)
-    (c .output-at .ensures ∙ ap (λ (q : List _). outputOf (a .o) (now (a .file)) (now (a .sums)) q (c .before .before .before .before .loop .f)) (window (c .before .before .before .before)))
+    let l = c .before .before .before in
+    let a = l .before .before .before .before .before .before .before .before .args in
+    let file = now (a .file) in
+    let sums = now (a .sums) in
+    let area = now (a .area) in
+    let f = l .before .loop .f in
+    laid-store (a .o .count) (outputOf (a .o) file sums (part area (a .from) (a .n))) area (a .at) f
+    (omega arith) (l .loop-test .taken) (l .before .loop .inv)
+    (c .output-at .ensures ∙ ap (λ (q : List ℕ). outputOf (a .o) file sums q f) (window (l .before)))
 
 same-length : tie.Need-same-length Inv-loop μ-loop
 same-length c = c .before .loop .inv .same

@@ -22,11 +22,15 @@ abbrev μ-loop : tie.MeasureT-loop
 
 loop-holds : tie.Need-loop-holds Inv-loop μ-loop
 loop-holds c =
-    let none : c .before .before .before .before .args .first - c .before .before .before .before .args .first ≡ 0 = omega arith in
+    let a = c .before .before .before .before .args in
+    let none : a .first - a .first ≡ 0 = omega arith in
     (omega arith, rw none (laid-none _ _ _ _), omega arith)
 
 put-row-requires : tie.Need-put-row-requires Inv-loop μ-loop
-put-row-requires c κs = (rw (c .before .before .before .loop .inv .1 .same) (c .before .before .before .before .before .before .before .before .pre .0), (omega (arith, c .before .before .before .before .before .before .before .before .pre .1), omega (arith, c .before .before .before .before .before .before .before .before .pre .1, c .before .before .before .loop .inv .2)))
+put-row-requires c κs =
+    let v = c .before .before .before .loop .inv in
+    let s = c .before .before .before .before .before .before .before .before in
+    (rw (v .1 .same) (s .pre .0), (omega (arith, s .pre .1), omega (arith, s .pre .1, v .2)))
 
 add-i : tie.Need-add-i Inv-loop μ-loop
 add-i c = omega arith
@@ -36,12 +40,15 @@ loop-less c = omega arith
 
 loop-again : tie.Need-loop-again Inv-loop μ-loop
 loop-again c =
-    let s = c .before .before .before .before .before .before .before .before .before .before .before .before .before in
-    let a = s .args in (
-      omega (arith, c .before .before .before .before .before .before .before .before .loop .inv .0),
-      rows-turn (a .y) (a .z) (a .zr) (now (a .file)) (now (a .sums)) (a .from) (a .other) (now (a .area)) (a .first) (a .end) (c .before .before .before .before .before .before .before .before .loop .i)
-          (s .pre .0) (c .before .before .before .before .before .before .before .before .loop .inv .0) (c .before .before .before .before .before .before .before .loop-test .taken) (s .pre .1 .1) (c .before .before .before .before .before .before .before .before .loop .inv .1) (c .before .before .before .before .put-row .ensures) (c .before .before .before .before .put-row .kept .1 .1 .1 .1 .1 .0),
-      c .before .before .before .before .put-row .kept .1 .1 .1 .1 .1 .1 .0 ∙ c .before .before .before .before .before .before .before .before .loop .inv .2,
+    let l = c .before .before .before .before .before .before .before in
+    let v = l .before .loop .inv in
+    let s = l .before .before .before .before .before .before in
+    let a = s .args in
+    let put = c .before .before .before .before .put-row in (
+      omega (arith, v .0),
+      rows-turn (a .y) (a .z) (a .zr) (now (a .file)) (now (a .sums)) (a .from) (a .other) (now (a .area)) (a .first) (a .end) (l .before .loop .i)
+          (s .pre .0) (v .0) (l .loop-test .taken) (s .pre .1 .1) (v .1) (put .ensures) (put .kept .1 .1 .1 .1 .1 .0),
+      put .kept .1 .1 .1 .1 .1 .1 .0 ∙ v .2,
     )
 
 same-length : tie.Need-same-length Inv-loop μ-loop

@@ -34,7 +34,13 @@ loop-holds c = (omega arith, laid-none _ _ _ _)
 
 -- the weights of output f stand in the file
 inside : (c : tie.In-loop Inv-loop μ-loop) → c .before .loop .a + c .before .before .before .before .terms .result ≤ length (now (c .before .before .before .before .before .before .before .args .file))
-inside c = room (c .before .loop .f) (c .before .before .before .sums-of .result) (c .before .before .before .before .terms .result) (c .before .before .weights-at .result) (c .before .loop .inv .0) (c .loop-test .taken) (rw (c .before .before .before .before .terms .ensures, c .before .before .before .sums-of .ensures, c .before .before .weights-at .ensures) (c .before .before .before .before .before .before .before .pre .1 .0 .0))
+inside c =
+    let s = c .before .before .before .before .before .before .before in
+    let w = c .before .before in
+    let n = w .before .before .terms in
+    let count = w .before .sums-of in
+    let at = w .weights-at in
+    room (c .before .loop .f) (count .result) (n .result) (at .result) (c .before .loop .inv .0) (c .loop-test .taken) (rw (n .ensures, count .ensures, at .ensures) (s .pre .1 .0 .0))
 
 add-e : tie.Need-add-e Inv-loop μ-loop
 add-e c = omega (arith, inside c)
@@ -49,7 +55,11 @@ part-byte-total-end : tie.Need-part-byte-total-end Inv-loop μ-loop
 part-byte-total-end c = omega (arith, inside c)
 
 byte-total-requires : tie.Need-byte-total-requires Inv-loop μ-loop
-byte-total-requires c κs = rw (cut-length (now (c .before .before .before .before .before .before .before .before .args .file)) (c .before .before .loop .a) (c .before .before .before .before .before .terms .result) (inside (c .before)), c .before .before .before .before .before .terms .ensures) (c .before .before .before .before .before .before .before .before .pre .1 .1 .0)
+byte-total-requires c κs =
+    let l = c .before in
+    let s = l .before .before .before .before .before .before .before in
+    let n = l .before .before .before .before .terms in
+    rw (cut-length (now (s .args .file)) (l .before .loop .a) (n .result) (inside l), n .ensures) (s .pre .1 .1 .0)
 
 add-sums : tie.Need-add-sums Inv-loop μ-loop
 add-sums c = omega arith
@@ -68,12 +78,16 @@ loop-less c = omega arith
 
 loop-again : tie.Need-loop-again Inv-loop μ-loop
 loop-again c =
-    let file = now (c .before .before .before .before .before .before .before .before .before .args .file) in
-    let n = c .before .before .before .before .before .before .terms .result in (
+    let l = c .before .before in
+    let v = l .before .loop .inv in
+    let a = l .before .before .before .before .before .before .before .args in
+    let file = now (a .file) in
+    let n = l .before .before .before .before .terms .result in
+    let at = l .before .before .weights-at .result in (
       omega arith,
-      laid-store (c .before .before .before .before .before .sums-of .result) (λ i. sum (part file (c .before .before .before .before .weights-at .result + i * n) n)) (now (c .before .before .before .before .before .before .before .before .before .args .sums)) (c .before .before .before .before .before .before .before .before .before .args .y .sums) (c .before .before .before .loop .f)
-          (omega arith) (c .before .before .loop-test .taken) (c .before .before .before .loop .inv .1)
-          (c .byte-total .ensures .0 ∙ ap sum (cut-is file (c .before .before .before .loop .a) n ∙ ap (λ (k : ℕ). part file k n) (c .before .before .before .loop .inv .0))),
+      laid-store (l .before .before .before .sums-of .result) (λ i. sum (part file (at + i * n) n)) (now (a .sums)) (a .y .sums) (l .before .loop .f)
+          (omega arith) (l .loop-test .taken) (v .1)
+          (c .byte-total .ensures .0 ∙ ap sum (cut-is file (l .before .loop .a) n ∙ ap (λ (k : ℕ). part file k n) (v .0))),
     )
 
 same-length : tie.Need-same-length Inv-loop μ-loop
@@ -81,8 +95,10 @@ same-length c = c .before .loop .inv .1 .same
 
 returns : tie.Need-returns Inv-loop μ-loop
 returns c =
+    let w = c .before .before in
+    let a = w .before .before .before .before .before .args in
     laid-done _ _ _ _ (c .before .loop .inv .1) (omega arith) ∙
-    ap (pasted (now (c .before .before .before .before .before .before .before .args .sums)) (c .before .before .before .before .before .before .before .args .y .sums)) (sums-are (c .before .before .before .before .before .before .before .args .y) (now (c .before .before .before .before .before .before .before .args .file)) (c .before .before .before .before .terms .ensures) (c .before .before .before .sums-of .ensures) (c .before .before .weights-at .ensures))
+    ap (pasted (now (a .sums)) (a .y .sums)) (sums-are (a .y) (now (a .file)) (w .before .before .terms .ensures) (w .before .sums-of .ensures) (w .weights-at .ensures))
 
 pub put-sums-spec : {M : Type 1} → statement M
 put-sums-spec =

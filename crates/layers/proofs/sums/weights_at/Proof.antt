@@ -1,67 +1,52 @@
-use Rattle.layers.proofs.Weights.{add-weights}
+-- `layers::sums::weights_at` meets its contract, kind by kind.
+-- Assumes nothing.
 use borrow.Author.Needs.{needs}
+use Rattle.layers.proofs.Weights.{add-weights}
 use Rattle.layers.proofs.sums.weights_at.Statement.{statement}
 use Rattle.layers.proofs.sums.weights_at.Tie as tie
-use Rattle.layers.proofs.sums.weights_at.Reads as reads
-use Rattle.layers.proofs.sums.weights_at.Lts as lts
 
--- src/sums.rt:37:27
 enum-known-kind : tie.Need-enum-known-kind
 enum-known-kind c = search needs
 
--- src/sums.rt:37:33
 add-result : tie.Need-add-result
 add-result c = search needs
 
--- src/sums.rt:37:52
 cast-result : tie.Need-cast-result
 cast-result c = search needs
 
--- src/sums.rt:37:48
 mul-result : tie.Need-mul-result
 mul-result c = search needs
 
--- src/sums.rt:37:33
 add-result-2 : tie.Need-add-result-2
 add-result-2 c = search needs
 
--- src/sums.rt:38:21
 enum-known-kind-2 : tie.Need-enum-known-kind-2
 enum-known-kind-2 c = search needs
 
--- src/sums.rt:38:27
 add-result-3 : tie.Need-add-result-3
 add-result-3 c = search needs
 
--- src/sums.rt:38:46
 cast-result-2 : tie.Need-cast-result-2
 cast-result-2 c = search needs
 
--- src/sums.rt:38:42
 mul-result-2 : tie.Need-mul-result-2
 mul-result-2 c = search needs
 
--- src/sums.rt:38:27
 add-result-4 : tie.Need-add-result-4
 add-result-4 c = search needs
 
--- src/sums.rt:39:30
 enum-told : tie.Need-enum-told
 enum-told c = search needs
 
--- src/sums.rt:39:30
 add-result-5 : tie.Need-add-result-5
 add-result-5 c = search needs
 
--- src/sums.rt:31:1
 returns : tie.Need-returns
 returns c = rw (c .before .before .before .kind .given .1)
 
--- src/sums.rt:31:1
 returns-2 : tie.Need-returns-2
 returns-2 c = rw (c .before .before .before .kind2 .given .1)
 
--- src/sums.rt:31:1
 returns-3 : tie.Need-returns-3
 returns-3 c = add-weights (c .before .before .before .args .y) _ (c .before .enum-told .given .1)
 
