@@ -1,0 +1,226 @@
+-- A convolution: its window, the places of its output, and its rows.
+-- Assumes nothing.
+use mathlib.Core.Path.{_≡_, sym, ap, ap₂, _∙_}
+use mathlib.Core.List.{List}
+use Prim.Native.Nat.{ℕ, _+_, _-_, _*_, _/_, _≤_, _<_}
+use native.Mathlib.Nat.{mul-le-mul-left, mul-le-mul-right, div-add-mod'}
+use native.Mathlib.Omega.{arith}
+use lib.ListN.{length, take}
+use Rattle.records.specs.Shape.{bytesOf, GoodShape}
+use Rattle.records.specs.Conv.{convOutput}
+use Rattle.records.specs.declared.shape.Shape.{Shape}
+use Rattle.records.specs.declared.conv.Conv.{Conv}
+use Rattle.records.specs.declared.layer.Layer.{Layer}
+use Rattle.records.proofs.Shapes.{mul-most}
+use Rattle.windows.specs.Lists.{pasted, joined, part}
+use Rattle.windows.specs.Window.{Sound, sizeOf, termsOf, windowOf}
+use Rattle.windows.specs.declared.window.Window.{Window}
+use Rattle.windows.proofs.Pasted.{part-length, part-part, part-pasted, joined-same}
+use Rattle.windows.proofs.Windows.{window-length, window-plain}
+use Rattle.layers.specs.Outputs.{OutputsReady, outputsOf}
+use Rattle.layers.specs.Conv.{windowFor, convOutputs, convRow}
+use Rattle.layers.specs.Row.{ConvReady, rowBytes, tensorAt}
+use Rattle.layers.specs.declared.outputs.Outputs.{Outputs}
+use Rattle.layers.proofs.Laid.{Laid, room, laid-more, laid-before, cut-is}
+use Rattle.layers.proofs.Rows.{row-in}
+use Rattle.layers.proofs.Totals.{ready-any, outputs-length}
+
+-- ---- a window that is gathered
+
+-- the cells of a tensor, and the taps of a kernel
+pub cells-few : (w : Window) → Sound w → w .rows * w .columns ≤ 16384
+cells-few w s = omega (arith, s .size, mul-le-mul-left (w .rows * w .columns) (s .channels-some))
+
+pub taps-few : (w : Window) → Sound w → w .height * w .width ≤ 49
+taps-few w s = mul-most (w .height) (w .width) 7 7 (s .height) (s .width)
+
+pub product : (a b k : ℕ) {m n : ℕ} → m ≡ a * b → n ≡ m * k → n ≡ a * b * k
+product a b k em en = en ∙ ap (λ (x : ℕ). x * k) em
+
+-- the patch that is made of the part of the area begins with the window of the tensor that stands there
+module _
+    (w : Window)
+    (area d : List ℕ)
+    (from p q : ℕ)
+    {n k : ℕ}
+    {patch : List ℕ}
+    (en : n ≡ sizeOf w)
+    (ek : k ≡ termsOf w)
+    (h : from + sizeOf w ≤ length area)
+    (e : patch ≡ pasted d 0 (windowOf w (part area from (from + n - from)) p q)) where
+  tensor : part area from (from + n - from) ≡ part area from (sizeOf w)
+  tensor = cut-is area from n ∙ ap (part area from) en
+
+  window : length (windowOf w (part area from (sizeOf w)) p q) ≡ termsOf w
+  window = window-length w (part area from (sizeOf w)) p q (part-length area from (sizeOf w) h)
+
+  pub patch-is : take k patch ≡ windowOf w (part area from (sizeOf w)) p q
+  patch-is =
+      rw (e, tensor) (part-pasted d (windowOf w (part area from (sizeOf w)) p q) 0 k (window ∙ sym ek) (omega arith))
+
+  pub patch-length : length (take k patch) ≡ termsOf w
+  patch-length = ap length patch-is ∙ window
+
+-- ---- the places of a row
+
+-- a place of a side of the output begins within the padded side of the input
+stride-in : (j n x s : ℕ) → n ≡ x / s + 1 → j < n → j * s ≤ x
+stride-in j n x s e h = omega (arith, div-add-mod' x s, mul-le-mul-right {m = j} {n = x / s} s (omega arith))
+
+-- a side of the output of a kernel of one cell, with stride 1, is the input's
+plain-side : (n p k s : ℕ) → 1 ≤ n → p < k → k ≡ 1 → s ≡ 1 → (n + 2 * p - k) / s + 1 ≡ n
+plain-side n p k s h g ek es = rw es (omega arith)
+
+-- the window's tensor is the input
+pub size-is : (y : Layer) (c : Conv) (z : ℕ) {w : Window} → w ≡ windowFor y c z → sizeOf w ≡ bytesOf (y .input)
+unfolding bytesOf
+size-is y c z e = ap sizeOf e
+
+module _ (y : Layer) (c : Conv) {file sums : List ℕ} (r : ConvReady y c file sums) where
+  pub filters-are : y .output .channels ≡ c .filters
+  unfolding convOutput
+  filters-are = ap (λ (s : Shape). s .channels) (r .output)
+
+  rows-are : y .output .rows ≡ (y .input .rows + 2 * c .padding - c .height) / c .stride + 1
+  unfolding convOutput
+  rows-are = ap (λ (s : Shape). s .rows) (r .output)
+
+  columns-are : y .output .columns ≡ (y .input .columns + 2 * c .padding - c .width) / c .stride + 1
+  unfolding convOutput
+  columns-are = ap (λ (s : Shape). s .columns) (r .output)
+
+  -- a window of one cell has a term for each channel
+  pub plain-ready : (z : ℕ) {o : Outputs} → c .height ≡ 1 → c .width ≡ 1 → o ≡ convOutputs y c z → OutputsReady o (y .input .channels) file sums
+  plain-ready z eh ew eo =
+      let n : c .height * c .width * y .input .channels ≡ y .input .channels = rw (eh, ew) (omega arith) in
+      rw (eo, ← n) (ready-any (convOutputs y c 0) z _ (r .outputs))
+
+  module _ (g : GoodShape (y .input)) where
+    pub row-at : (i : ℕ) → i < y .output .rows → i * c .stride ≤ 131072
+    row-at i h = omega (arith, stride-in i _ _ (c .stride) rows-are h)
+
+    pub column-at : (j : ℕ) → j < y .output .columns → j * c .stride ≤ y .input .columns + c .padding
+    column-at j h = omega (arith, stride-in j _ _ (c .stride) columns-are h)
+
+    pub plain-rows : c .height ≡ 1 → c .stride ≡ 1 → y .output .rows ≡ y .input .rows
+    plain-rows eh es = rows-are ∙ plain-side (y .input .rows) (c .padding) (c .height) (c .stride) (g .rows-some) (r .ok .padding-rows) eh es
+
+    pub plain-columns : c .width ≡ 1 → c .stride ≡ 1 → y .output .columns ≡ y .input .columns
+    plain-columns ew es = columns-are ∙ plain-side (y .input .columns) (c .padding) (c .width) (c .stride) (g .columns-some) (r .ok .padding-columns) ew es
+
+    window-sound : (z : ℕ) → Sound (windowFor y c z)
+    unfolding bytesOf
+    window-sound z = record {
+      rows = g .rows-few;
+      columns = g .columns-few;
+      channels-some = g .channels-some;
+      channels = g .channels-few;
+      size = g .bytes-few;
+      height = r .ok .height-few;
+      width = r .ok .width-few;
+      top = omega (arith, r .ok .padding-rows);
+      left = omega (arith, r .ok .padding-columns);
+    }
+
+    -- what the function `conv_place` requires at place j of row i
+    pub place-ready :
+        (z i j from : ℕ) {w : Window} {o : Outputs} {at p q room patch : ℕ} →
+        w ≡ windowFor y c z →
+        o ≡ convOutputs y c z →
+        i < y .output .rows →
+        j < y .output .columns →
+        p ≡ i * c .stride →
+        q ≡ j * c .stride →
+        from + bytesOf (y .input) ≤ at →
+        at + o .count ≤ room →
+        12544 ≤ patch →
+        Sound w ×
+        (OutputsReady o (termsOf w) file sums ×
+        (((from + sizeOf w ≤ at) × (at + o .count ≤ room)) × ((q ≤ w .columns + w .left) × (p ≤ 131072) × (termsOf w ≤ patch))))
+    unfolding bytesOf
+    place-ready z i j from ew eo hi hj ep eq hf hr hp =
+        let sound = window-sound z in
+        let taps = taps-few (windowFor y c z) sound in
+        let terms : termsOf (windowFor y c z) ≤ 12544 = mul-most (c .height * c .width) (y .input .channels) 49 256 taps (g .channels-few) in
+        (rw ew sound,
+          (rw (eo, ew) (ready-any (convOutputs y c 0) z _ (r .outputs)),
+            ((rw ew hf, hr), (rw (ew, eq) (column-at j hj), rw ep (row-at i hi), rw ew (omega arith)))))
+
+-- one more place of a row, of the tensor that stands in the area before it
+pub place-turn :
+    (w : Window) (o : Outputs) (file sums area : List ℕ) (n from at p s j : ℕ) {a q : ℕ} {area₁ area₂ : List ℕ} →
+    from + sizeOf w ≤ at →
+    at ≤ length area →
+    j < n →
+    a ≡ at + j * o .count →
+    q ≡ j * s →
+    Laid n (λ k. outputsOf o file sums (windowOf w (part area from (sizeOf w)) p (k * s))) area at area₁ j →
+    area₂ ≡ pasted area₁ a (outputsOf o file sums (windowOf w (part area₁ from (sizeOf w)) p q)) →
+    length area₂ ≡ length area₁ →
+    Laid n (λ k. outputsOf o file sums (windowOf w (part area from (sizeOf w)) p (k * s))) area at area₂ (j + 1)
+place-turn w o file sums area n from at p s j {a} {q} {area₁} hf ha hj ea eq l e =
+    laid-more n _ area at (o .count) j (λ k. outputs-length o file sums _) ha hj ea l
+    (e ∙ ap₂ (λ (t : List ℕ) (x : ℕ). pasted area₁ a (outputsOf o file sums (windowOf w t p x))) (laid-before n _ area at from (sizeOf w) hf ha l) eq)
+
+-- the same, of a window that stands in the area as it is, one of n windows of m bytes
+pub plain-turn :
+    (o : Outputs) (file sums area : List ℕ) (n m from at j : ℕ) {a s : ℕ} {area₁ area₂ : List ℕ} →
+    from + n * m ≤ at →
+    at ≤ length area →
+    j < n →
+    a ≡ at + j * o .count →
+    s ≡ from + j * m →
+    Laid n (λ k. outputsOf o file sums (part area (from + k * m) m)) area at area₁ j →
+    area₂ ≡ pasted area₁ a (outputsOf o file sums (part area₁ s m)) →
+    length area₂ ≡ length area₁ →
+    Laid n (λ k. outputsOf o file sums (part area (from + k * m) m)) area at area₂ (j + 1)
+plain-turn o file sums area n m from at j {a} {s} {area₁} hf ha hj ea es l e =
+    laid-more n _ area at (o .count) j (λ k. outputs-length o file sums _) ha hj ea l
+    (e ∙ ap (λ (t : List ℕ). pasted area₁ a (outputsOf o file sums t)) (laid-before n _ area at s m (room j n m from es hj hf) ha l ∙ ap (λ (x : ℕ). part area x m) es))
+
+module _ (y : Layer) (c : Conv) (z : ℕ) (file sums area : List ℕ) (from i : ℕ) where
+  -- the row's places, as the code works them out
+  pub conv-done :
+      {w : Window} {o : Outputs} {p skip line : ℕ} {area′ : List ℕ} →
+      w ≡ windowFor y c z →
+      o ≡ convOutputs y c z →
+      p ≡ i * c .stride →
+      line ≡ rowBytes (y .output) →
+      skip ≡ i * line →
+      area′ ≡ pasted area (y .place + skip) (joined (y .output .columns) (λ k. outputsOf o file sums (windowOf w (part area from (sizeOf w)) p (k * c .stride)))) →
+      area′ ≡ pasted area (y .place + i * rowBytes (y .output)) (convRow y c z file sums (tensorAt area from (y .input)) i)
+  unfolding convRow bytesOf
+  conv-done ew eo ep el es e = e ∙ rw (es, el, ep, eo, ew)
+
+  pub plain-done :
+      {o : Outputs} {skip line skip′ line′ : ℕ} {area′ : List ℕ} →
+      ConvReady y c file sums →
+      GoodShape (y .input) →
+      i < y .output .rows →
+      (c .height ≡ 1) × (c .width ≡ 1) × (c .stride ≡ 1) →
+      o ≡ convOutputs y c z →
+      line ≡ rowBytes (y .input) →
+      skip ≡ i * line →
+      line′ ≡ rowBytes (y .output) →
+      skip′ ≡ i * line′ →
+      area′ ≡ pasted area (y .place + skip′) (joined (y .input .columns) (λ k. outputsOf o file sums (part area (from + skip + k * y .input .channels) (y .input .channels)))) →
+      area′ ≡ pasted area (y .place + i * rowBytes (y .output)) (convRow y c z file sums (tensorAt area from (y .input)) i)
+  unfolding convRow bytesOf
+  plain-done {o} {skip} {line} {skip′} {line′} r g hi (eh, ew, es) eo el ek el′ ek′ e =
+      let columns = plain-columns y c r g ew es in
+      e ∙ ap (pasted area (y .place + skip′)) (joined-same (y .input .columns) (λ k h. ap₂ (λ (u : Outputs) (q : List ℕ). outputsOf u file sums q) eo (place k h))) ∙ rw (ek′, el′, columns)
+    where
+      place :
+          (k : ℕ) →
+          k < y .input .columns →
+          part area (from + skip + k * y .input .channels) (y .input .channels) ≡
+          windowOf (windowFor y c z) (tensorAt area from (y .input)) (i * c .stride) (k * c .stride)
+      place k h =
+          let n = y .input .channels in
+          let cell = (i * y .input .columns + k) * n in
+          let inside : cell + n ≤ bytesOf (y .input) = omega (arith, row-in (y .input) i (rw (plain-rows y c r g eh es) at hi), mul-le-mul-right {m = k + 1} {n = y .input .columns} n (omega arith)) in
+          let there : from + skip + k * n ≡ from + cell = omega (arith, ek ∙ ap (λ (l : ℕ). i * l) el) in
+          let row : i * c .stride ≡ i = rw es (omega arith) in
+          let column : k * c .stride ≡ k = rw es (omega arith) in
+          rw (there, row, column, window-plain (windowFor y c z) (tensorAt area from (y .input)) i k eh ew (omega (arith, r .ok .padding-rows)) (omega (arith, r .ok .padding-columns)) (rw (plain-rows y c r g eh es) at hi) h)
+          (sym (part-part area from (bytesOf (y .input)) cell n inside))

@@ -1,0 +1,117 @@
+-- The rows of a tensor.
+-- Assumes nothing.
+use mathlib.Core.Path.{_≡_, refl, sym, ap, ap₂, subst, _∙_}
+use mathlib.Core.List.{List, [], _∷_}
+use Prim.Native.Nat.{ℕ, _+_, _-_, _*_, _≤_, _<_}
+use native.Mathlib.Nat.{mul-le-mul-right, mul-one}
+use native.Mathlib.Omega.{arith}
+use lib.ListN.{length, getD}
+use Rattle.records.specs.Shape.{bytesOf}
+use Rattle.records.specs.Conv.{convOutput}
+use Rattle.records.specs.Full.{fullOutput}
+use Rattle.records.specs.declared.shape.Shape.{Shape}
+use Rattle.records.specs.declared.full.Full.{Full}
+use Rattle.records.specs.declared.add.Add.{Add}
+use Rattle.records.specs.declared.layer.Kind.{Kind}
+use Rattle.records.specs.declared.layer.Kind.the-variants.{Convolution, Fully, Addition}
+use Rattle.records.specs.declared.layer.Layer.{Layer}
+use Rattle.windows.specs.Lists.{pasted, joined, part}
+use Rattle.windows.proofs.Pasted.{joined-length, joined-same}
+use Rattle.layers.specs.Conv.{convOutputs, convRow}
+use Rattle.layers.specs.Full.{fullOutputs}
+use Rattle.layers.specs.Add.{addByte, addRow}
+use Rattle.layers.specs.Row.{rowBytes, tensorAt, rowBy, rowOf, KindReady, Ready}
+use Rattle.layers.proofs.Laid.{Laid, part-at, laid-more, laid-before}
+use Rattle.layers.proofs.Totals.{outputs-length}
+
+-- a row stands within its tensor
+pub row-in : (s : Shape) (i : ℕ) → i < s .rows → i * rowBytes s + rowBytes s ≤ bytesOf s
+unfolding bytesOf
+row-in s i h = omega (arith, mul-le-mul-right {m = i + 1} {n = s .rows} (rowBytes s) (omega arith))
+
+-- the same, with the numbers as the code has them
+pub row-skip : (s : Shape) (i : ℕ) {w skip : ℕ} → i < s .rows → w ≡ rowBytes s → skip ≡ i * w → skip + w ≤ bytesOf s
+row-skip s i h ew es = omega (arith, es ∙ ap (λ (m : ℕ). i * m) ew, row-in s i h)
+
+-- every row that a layer makes has the bytes of a row of its output
+length-by :
+    (kind : Kind) (y : Layer) (z z′ : ℕ) (file sums t t′ : List ℕ) (i : ℕ) →
+    KindReady kind y file sums →
+    length (rowBy kind y z z′ file sums t t′ i) ≡ rowBytes (y .output)
+unfolding convRow convOutput fullOutput addRow
+length-by (Convolution c) y z z′ file sums t t′ i r =
+    joined-length (y .output .columns) (c .filters) _ (λ j. outputs-length (convOutputs y c z) file sums _) ∙
+    ap (λ (n : ℕ). y .output .columns * n) (sym (ap (λ (s : Shape). s .channels) (r .output)))
+length-by (Fully f) y z z′ file sums t t′ i r = outputs-length (fullOutputs y f z) file sums t ∙ sym (ap rowBytes (r .output) ∙ omega arith)
+length-by (Addition a) y z z′ file sums t t′ i r = joined-length (rowBytes (y .output)) 1 _ (λ k. refl) ∙ mul-one (rowBytes (y .output))
+
+module _ (y : Layer) (z z′ : ℕ) (file sums : List ℕ) (from other : ℕ) where
+  -- row i of the tensors that stand in an area
+  abbrev pub rowFrom : List ℕ → ℕ → List ℕ
+  rowFrom area i = rowOf y z z′ file sums (tensorAt area from (y .input)) (tensorAt area other (y .input)) i
+
+  -- one more row of a run, of the tensors that stand in the area before it
+  pub rows-turn :
+      (area : List ℕ) (first end i : ℕ) {area₁ area₂ : List ℕ} →
+      Ready y file sums (length area) from other →
+      first ≤ i →
+      i < end →
+      end ≤ y .output .rows →
+      Laid (end - first) (λ k. rowFrom area (first + k)) area (y .place + first * rowBytes (y .output)) area₁ (i - first) →
+      area₂ ≡ pasted area₁ (y .place + i * rowBytes (y .output)) (rowFrom area₁ i) →
+      length area₂ ≡ length area₁ →
+      Laid (end - first) (λ k. rowFrom area (first + k)) area (y .place + first * rowBytes (y .output)) area₂ (i + 1 - first)
+  rows-turn area first end i {area₁} {area₂} r hf hi he l e same =
+      let w = rowBytes (y .output) in
+      let at = y .place + first * w in
+      let there = row-in (y .output) i (omega arith) in
+      let before = mul-le-mul-right {m = first} {n = i} w hf in
+      let inside : at ≤ length area = omega (arith, r .within) in
+      let steps : i + 1 - first ≡ i - first + 1 = omega arith in
+      let row : first + (i - first) ≡ i = omega arith in
+      let place : y .place + i * w ≡ at + (i - first) * w = omega (arith, ap (λ (k : ℕ). k * w) row) in
+      let t = laid-before (end - first) _ area at from (bytesOf (y .input)) (omega (arith, r .before)) inside l in
+      let t′ = laid-before (end - first) _ area at other (bytesOf (y .input)) (omega (arith, r .other-before)) inside l in
+      rw steps
+      (laid-more (end - first) _ area at w (i - first) (λ k. length-by (y .kind) y z z′ file sums _ _ _ (r .kind)) inside (omega arith) place l
+      (e ∙ cc (t, t′, row)) same)
+
+-- ---- the rows of each kind
+
+-- what a layer needs, and its rows, by its kind
+module _ (y : Layer) (kind : Kind) (e : y .kind ≡ kind) where
+  pub ready-as : {file sums : List ℕ} {room from other : ℕ} → Ready y file sums room from other → KindReady kind y file sums
+  ready-as {file} {sums} r = subst (λ k. KindReady k y file sums) e (r .kind)
+
+  pub row-as : (z z′ : ℕ) (file sums t t′ : List ℕ) (i : ℕ) → rowBy kind y z z′ file sums t t′ i ≡ rowOf y z z′ file sums t t′ i
+  row-as z z′ file sums t t′ i = ap (λ k. rowBy k y z z′ file sums t t′ i) (sym e)
+
+-- a full layer has one row
+pub full-place : (y : Layer) (f : Full) (i : ℕ) → y .output ≡ fullOutput f → i < y .output .rows → y .place ≡ y .place + i * rowBytes (y .output)
+unfolding fullOutput
+full-place y f i e h =
+    let none : i ≡ 0 = omega (arith, ap (λ (s : Shape). s .rows) e) in
+    omega (arith, ap (λ (k : ℕ). k * rowBytes (y .output)) none)
+
+-- a full layer's output has a byte for each of its outputs
+pub full-bytes : (s : Shape) (f : Full) → s ≡ fullOutput f → bytesOf s ≡ f .outputs
+unfolding bytesOf fullOutput
+full-bytes s f e = ap bytesOf e ∙ omega arith
+
+-- row i of an add of two tensors of `size` bytes that stand in one area, laid from its place
+pub add-done :
+    (a : Add) (z z′ : ℕ) (area : List ℕ) (from other place size i w : ℕ) {w′ skip : ℕ} {area′ : List ℕ} →
+    w′ ≡ w →
+    skip ≡ i * w′ →
+    skip + w′ ≤ size →
+    area′ ≡ pasted area (place + skip) (joined w′ (λ k. addByte a z z′ (getD area (from + skip + k) 0) (getD area (other + skip + k) 0) ∷ [])) →
+    area′ ≡ pasted area (place + i * w) (addRow a z z′ w (part area from size) (part area other size) i)
+unfolding addRow
+add-done a z z′ area from other place size i w {w′} {skip} ew es h e =
+    e ∙ ap (pasted area (place + skip)) (joined-same w′ (λ k g. ap₂ (λ (q r : ℕ). addByte a z z′ q r ∷ []) (byte from k g) (byte other k g))) ∙
+    rw (es, ew)
+  where
+    byte : (at k : ℕ) → k < w′ → getD area (at + skip + k) 0 ≡ getD (part area at size) (i * w′ + k) 0
+    byte at k g =
+        let there : at + skip + k ≡ at + (i * w′ + k) = omega arith in
+        rw (part-at area at size (i * w′ + k) (omega arith), there)

@@ -1,0 +1,31 @@
+-- The terms of a layer's outputs, where its weights begin, and their sums.
+-- Assumes nothing.
+use mathlib.Core.Path.{_≡_}
+use mathlib.Core.List.{List, [], _∷_}
+use Prim.Native.Nat.{ℕ, _+_, _*_}
+use native.Mathlib.Omega.{arith}
+use Rattle.numbers.specs.Total.{sum}
+use Rattle.records.specs.Layer.{sumsOf, termsOf, weightsAt}
+use Rattle.records.specs.declared.conv.Conv.{Conv}
+use Rattle.records.specs.declared.add.Add.{Add}
+use Rattle.records.specs.declared.layer.Kind.the-variants.{Convolution, Addition}
+use Rattle.records.specs.declared.layer.Layer.{Layer}
+use Rattle.windows.specs.Lists.{joined, part}
+use Rattle.layers.specs.Sums.{layerSums}
+
+module _ (y : Layer) where
+  pub conv-terms : (c : Conv) {m n : ℕ} → y .kind ≡ Convolution c → m ≡ c .height * c .width → n ≡ m * y .input .channels → n ≡ termsOf (y .kind) (y .input)
+  conv-terms c e em en = rw (e, en, em)
+
+  pub add-weights : (a : Add) → y .kind ≡ Addition a → y .start + 22 ≡ weightsAt y
+  add-weights a e = rw e (omega arith)
+
+  -- the sums of a layer, with its numbers as the code has them
+  pub sums-are :
+      (file : List ℕ) {n count at : ℕ} →
+      n ≡ termsOf (y .kind) (y .input) →
+      count ≡ sumsOf (y .kind) →
+      at ≡ weightsAt y →
+      joined count (λ f. sum (part file (at + f * n) n) ∷ []) ≡ layerSums y file
+  unfolding layerSums
+  sums-are file en ec ea = rw (en, ec, ea)

@@ -1,0 +1,156 @@
+-- `layers::conv::gathered_row` meets its contract. The loop's invariant: j places of the row are laid from its place, which the tensor stands before.
+-- Assumes nothing.
+use mathlib.Core.Path.{_≡_, sym, ap, _∙_}
+use Prim.Native.Nat.{ℕ, _+_, _*_, _-_, _≤_}
+use native.Mathlib.Omega.{arith}
+use denote.Ref.{now}
+use lib.ListN.{length}
+use Rattle.records.specs.Shape.{bytesOf}
+use Rattle.windows.specs.Lists.{part}
+use Rattle.windows.specs.Window.{sizeOf, windowOf}
+use Rattle.layers.specs.Outputs.{outputsOf}
+use Rattle.layers.specs.Row.{rowBytes}
+use Rattle.layers.specs.declared.outputs.Outputs.{Outputs}
+use Rattle.layers.proofs.Convs.{size-is, filters-are, column-at, place-ready, place-turn, conv-done}
+use Rattle.layers.proofs.Laid.{Laid, room, laid-none, laid-done}
+use Rattle.layers.proofs.Rows.{row-in, row-skip}
+use Rattle.layers.proofs.conv.gathered_row.Statement.{statement}
+use Rattle.layers.proofs.conv.gathered_row.Tie as tie
+
+abbrev Inv-loop : tie.InvT-loop
+Inv-loop z file sums area₀ patch₀ from i w o across filters stride p at₀ q₀ j₀ area patch at q j =
+    (at ≡ at₀ + j * filters) ×
+    (q ≡ j * stride) ×
+    Laid across (λ k. outputsOf o file sums (windowOf w (part area₀ from (sizeOf w)) p (k * stride))) area₀ at₀ area j ×
+    (length patch ≡ length patch₀)
+
+abbrev μ-loop : tie.MeasureT-loop
+μ-loop z file sums area₀ patch₀ from i w o across filters stride p at₀ q₀ j₀ area patch at q j = across - j
+
+window-for-requires : tie.Need-window-for-requires Inv-loop μ-loop
+window-for-requires c κs = tt
+
+conv-outputs-requires : tie.Need-conv-outputs-requires Inv-loop μ-loop
+conv-outputs-requires c κs = omega (arith, c .before .before .before .before .before .pre .0 .outputs)
+
+cast-stride : tie.Need-cast-stride Inv-loop μ-loop
+cast-stride c = omega (arith, c .before .before .before .before .before .before .before .before .pre .0 .ok)
+
+times-requires : tie.Need-times-requires Inv-loop μ-loop
+times-requires c κs = let s = c .before .before .before .before .before .before .before .before in omega (arith, s .pre .0 .ok, s .pre .1)
+
+-- the filters are the output's channels
+filters : (c : tie.After-conv-outputs Inv-loop μ-loop) → c .conv-outputs .result .count ≡ c .before .before .before .before .before .before .args .y .output .channels
+filters c = let s = c .before .before .before .before .before .before in ap (λ (o : Outputs). o .count) (c .conv-outputs .ensures) ∙ sym (filters-are (s .args .y) (s .args .c) (s .pre .0))
+
+times-requires-2 : tie.Need-times-requires-2 Inv-loop μ-loop
+times-requires-2 c κs = omega (arith, c .before .before .before .before .before .before .before .before .before .pre .1, filters (c .before .before .before))
+
+-- the bytes of a row
+line : (c : tie.After-times2 Inv-loop μ-loop) → c .times2 .result ≡ rowBytes (c .before .before .before .before .before .before .before .before .before .before .args .y .output)
+line c = let y = c .before .before .before .before .before .before .before .before .before .before .args .y in c .times2 .ensures .0 ∙ ap (λ (n : ℕ). y .output .columns * n) (filters (c .before .before .before .before))
+
+times-requires-3 : tie.Need-times-requires-3 Inv-loop μ-loop
+times-requires-3 c κs = let s = c .before .before .before .before .before .before .before .before .before .before in omega (arith, s .pre .1, line c, row-in (s .args .y .output) (s .args .i) (s .pre .1 .1 .1 .0))
+
+-- the row stands in the output
+inside : (c : tie.After-times3 Inv-loop μ-loop) → c .times3 .result + c .before .times2 .result ≤ bytesOf (c .before .before .before .before .before .before .before .before .before .before .before .args .y .output)
+inside c = let s = c .before .before .before .before .before .before .before .before .before .before .before in row-skip (s .args .y .output) (s .args .i) (s .pre .1 .1 .1 .0) (line (c .before)) (c .times3 .ensures .0)
+
+add-at : tie.Need-add-at Inv-loop μ-loop
+add-at c = let t = c .before in let s = t .before .before .before .before .before .before .before .before .before .before .before in omega (arith, s .pre .1, s .good, inside t)
+
+loop-holds : tie.Need-loop-holds Inv-loop μ-loop
+loop-holds c = (omega arith, omega arith, laid-none _ _ _ _, omega arith)
+
+-- the place that is next has room in the row
+next : (c : tie.In-loop Inv-loop μ-loop) → c .before .loop .at + c .before .before .before .before .before .before .before .before .conv-outputs .result .count ≤ length (now (c .before .before .before .before .before .before .before .before .before .before .before .before .before .before .args .area))
+next c =
+    let s = c .before .before .before .before .before .before .before .before .before .before .before .before .before .before in
+    let y = s .args .y in
+    let o = c .before .before .before .before .before .before .before .before .conv-outputs .result in
+    let t = c .before .before .before in
+    room (c .before .loop .j) (y .output .columns) (o .count) (y .place + t .times3 .result) (c .before .loop .inv .0) (c .loop-test .taken)
+    (omega (arith, s .pre .1 .1 .0, inside t, t .before .times2 .ensures .0))
+
+conv-place-requires : tie.Need-conv-place-requires Inv-loop μ-loop
+conv-place-requires c κs =
+    let l = c .before .before in
+    let v = l .before .loop .inv in
+    let s = l .before .before .before .before .before .before .before .before .before .before .before .before .before .before in
+    let a = s .args in
+    let h = s .pre .1 in
+    place-ready (a .y) (a .c) (s .pre .0) (h .0 .0) (a .z) (a .i) (l .before .loop .j) (a .from) (l .before .before .before .before .before .before .before .before .before .window-for .ensures) (l .before .before .before .before .before .before .before .before .conv-outputs .ensures)
+    (h .1 .1 .0) (l .loop-test .taken) (l .before .before .before .before .before .times .ensures .0) (v .1) (omega (arith, v .0, h .1 .0)) (omega (arith, next l, v .2 .same)) (omega (arith, v .3, h .1 .1))
+
+add-at-2 : tie.Need-add-at-2 Inv-loop μ-loop
+add-at-2 c = let l = c .before .before .before .before .before .before .before in omega (arith, l .before .before .before .before .before .before .before .before .before .before .before .before .before .before .good, next l)
+
+add-q : tie.Need-add-q Inv-loop μ-loop
+add-q c =
+    let l = c .before .before .before .before .before .before .before in
+    let s = l .before .before .before .before .before .before .before .before .before .before .before .before .before .before in
+    omega (arith, s .pre .0 .ok, s .pre .1, column-at (s .args .y) (s .args .c) (s .pre .0) (s .pre .1 .0 .0) (l .before .loop .j) (l .loop-test .taken))
+
+add-j : tie.Need-add-j Inv-loop μ-loop
+add-j c = omega arith
+
+loop-less : tie.Need-loop-less Inv-loop μ-loop
+loop-less c = omega arith
+
+loop-again : tie.Need-loop-again Inv-loop μ-loop
+loop-again c =
+    let l = c .before .before .before .before .before .before .before in
+    let v = l .before .loop .inv in
+    let w = l .before .before .before .before .before .before .before .before .before .window-for in
+    let o = l .before .before .before .before .before .before .before .before .conv-outputs in
+    let t = l .before .before .before in
+    let s = l .before .before .before .before .before .before .before .before .before .before .before .before .before .before in
+    let a = s .args in
+    let h = s .pre .1 .1 .0 in
+    let to = a .y .place + t .times3 .result in
+    let place = c .before .before .before .before .conv-place in
+    let tensor : sizeOf (w .result) ≡ bytesOf (a .y .input) = size-is (a .y) (a .c) (a .z) (w .ensures) in (
+      omega (arith, v .0),
+      omega (arith, v .1),
+      place-turn (w .result) (o .result) (now (a .file)) (now (a .sums)) (now (a .area)) (a .y .output .columns) (a .from) to (t .before .before .times .result) (a .c .stride) (l .before .loop .j)
+          (omega (arith, h)) (omega (arith, h, inside t)) (l .loop-test .taken) (v .0) (v .1) (v .2) (place .ensures) (place .kept .1 .1 .1 .1 .0),
+      place .kept .1 .1 .1 .1 .1 .0 ∙ v .3,
+    )
+
+same-length : tie.Need-same-length Inv-loop μ-loop
+same-length c = c .before .loop .inv .2 .same
+
+same-length-2 : tie.Need-same-length-2 Inv-loop μ-loop
+same-length-2 c = c .before .loop .inv .3
+
+returns : tie.Need-returns Inv-loop μ-loop
+returns c =
+    let t = c .before .before .before in
+    let a = t .before .before .before .before .before .before .before .before .before .before .before .args in
+    conv-done (a .y) (a .c) (a .z) (now (a .file)) (now (a .sums)) (now (a .area)) (a .from) (a .i) (t .before .before .before .before .before .before .window-for .ensures) (t .before .before .before .before .before .conv-outputs .ensures)
+    (t .before .before .times .ensures .0) (line (t .before)) (t .times3 .ensures .0) (laid-done _ _ _ _ (c .before .loop .inv .2) (omega arith))
+
+pub gathered-row-spec : {M : Type 1} → statement M
+gathered-row-spec =
+    tie.close
+    (tie.spec
+    Inv-loop
+    μ-loop
+    window-for-requires
+    conv-outputs-requires
+    cast-stride
+    times-requires
+    times-requires-2
+    times-requires-3
+    add-at
+    loop-holds
+    conv-place-requires
+    add-at-2
+    add-q
+    add-j
+    loop-less
+    loop-again
+    same-length
+    same-length-2
+    returns)

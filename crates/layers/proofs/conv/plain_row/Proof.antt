@@ -1,0 +1,176 @@
+-- `layers::conv::plain_row` meets its contract. The loop's invariant: j places of the row are laid from its place, which the tensor stands before.
+-- Assumes nothing.
+use mathlib.Core.Path.{_≡_, sym, ap, ap₂, _∙_}
+use Prim.Native.Nat.{ℕ, _+_, _*_, _-_, _≤_, _<_}
+use native.Mathlib.Omega.{arith}
+use denote.Ref.{now}
+use lib.ListN.{length}
+use Rattle.records.specs.Shape.{bytesOf}
+use Rattle.windows.specs.Lists.{part}
+use Rattle.layers.specs.Outputs.{outputsOf}
+use Rattle.layers.specs.Row.{rowBytes}
+use Rattle.layers.specs.declared.outputs.Outputs.{Outputs}
+use Rattle.layers.proofs.Convs.{filters-are, plain-rows, plain-columns, plain-ready, plain-turn, plain-done}
+use Rattle.layers.proofs.Laid.{Laid, room, laid-none, laid-done}
+use Rattle.layers.proofs.Rows.{row-in, row-skip}
+use Rattle.layers.proofs.conv.plain_row.Statement.{statement}
+use Rattle.layers.proofs.conv.plain_row.Tie as tie
+
+abbrev Inv-loop : tie.InvT-loop
+Inv-loop z file sums area₀ from i o across n filters start₀ at₀ j₀ area start at j =
+    (start ≡ start₀ + j * n) ×
+    (at ≡ at₀ + j * filters) ×
+    Laid across (λ k. outputsOf o file sums (part area₀ (start₀ + k * n) n)) area₀ at₀ area j
+
+abbrev μ-loop : tie.MeasureT-loop
+μ-loop z file sums area₀ from i o across n filters start₀ at₀ j₀ area start at j = across - j
+
+conv-outputs-requires : tie.Need-conv-outputs-requires Inv-loop μ-loop
+conv-outputs-requires c κs = omega (arith, c .before .before .before .pre .0 .outputs)
+
+times-requires : tie.Need-times-requires Inv-loop μ-loop
+times-requires c κs = omega (arith, c .before .before .before .before .before .pre .1 .0)
+
+-- row i is one of the input's
+row : (s : tie.Start Inv-loop μ-loop) → s .args .i < s .args .y .input .rows
+row s =
+    let e = plain-rows (s .args .y) (s .args .c) (s .pre .0) (s .pre .1 .0 .0) (s .pre .1 .1 .1 .1 .0) (s .pre .1 .1 .1 .1 .2) in
+    rw e at (s .pre .1 .1 .1 .0)
+
+times-requires-2 : tie.Need-times-requires-2 Inv-loop μ-loop
+times-requires-2 c κs =
+    let s = c .before .before .before .before .before .before in
+    omega (arith, s .pre .1 .0, c .times .ensures .0, row s, row-in (s .args .y .input) (s .args .i) (row s))
+
+-- the row stands in the input
+inside : (c : tie.After-times2 Inv-loop μ-loop) → c .times2 .result + c .before .times .result ≤ bytesOf (c .before .before .before .before .before .before .before .args .y .input)
+inside c = let s = c .before .before .before .before .before .before .before in row-skip (s .args .y .input) (s .args .i) (row s) (c .before .times .ensures .0) (c .times2 .ensures .0)
+
+add-start : tie.Need-add-start Inv-loop μ-loop
+add-start c = let t = c in let s = t .before .before .before .before .before .before .before in omega (arith, s .pre .1 .1 .0, s .good, inside t)
+
+-- the output has the input's columns, and the filters for its channels
+shape :
+    (c : tie.After-conv-outputs Inv-loop μ-loop) →
+    (c .before .before .before .before .args .y .output .columns ≡ c .before .before .before .before .args .y .input .columns) × (c .conv-outputs .result .count ≡ c .before .before .before .before .args .y .output .channels)
+shape c =
+    let s = c .before .before .before .before in
+    let a = s .args in
+    let r = s .pre .0 in
+    let h = s .pre .1 in (
+      plain-columns (a .y) (a .c) r (h .0 .0) (h .1 .1 .1 .1) (h .1 .1 .1 .2),
+      ap (λ (o : Outputs). o .count) (c .conv-outputs .ensures) ∙ sym (filters-are (a .y) (a .c) r),
+    )
+
+times-requires-3 : tie.Need-times-requires-3 Inv-loop μ-loop
+times-requires-3 c κs = omega (arith, c .before .before .before .before .before .before .before .pre .1 .0, shape (c .before .before .before))
+
+-- the bytes of a row of the output
+line : (c : tie.After-times3 Inv-loop μ-loop) → c .times3 .result ≡ rowBytes (c .before .before .before .before .before .before .before .before .args .y .output)
+line c = let e = shape (c .before .before .before .before) in c .times3 .ensures .0 ∙ ap₂ _*_ (sym (e .0)) (e .1)
+
+times-requires-4 : tie.Need-times-requires-4 Inv-loop μ-loop
+times-requires-4 c κs = let s = c .before .before .before .before .before .before .before .before in omega (arith, s .pre .1, line c, row-in (s .args .y .output) (s .args .i) (s .pre .1 .1 .1 .0))
+
+-- the row stands in the output
+outside : (c : tie.After-times4 Inv-loop μ-loop) → c .times4 .result + c .before .times3 .result ≤ bytesOf (c .before .before .before .before .before .before .before .before .before .args .y .output)
+outside c = let s = c .before .before .before .before .before .before .before .before .before in row-skip (s .args .y .output) (s .args .i) (s .pre .1 .1 .1 .0) (line (c .before)) (c .times4 .ensures .0)
+
+add-at : tie.Need-add-at Inv-loop μ-loop
+add-at c = let t = c .before in let s = t .before .before .before .before .before .before .before .before .before in omega (arith, s .pre .1 .1 .0, s .good, outside t)
+
+loop-holds : tie.Need-loop-holds Inv-loop μ-loop
+loop-holds c = (omega arith, omega arith, laid-none _ _ _ _)
+
+-- the window that is next, and the place
+next :
+    (c : tie.In-loop Inv-loop μ-loop) →
+    (c .before .loop .start + c .before .before .before .before .before .before .before .before .before .before .before .before .args .y .input .channels ≤ c .before .before .before .before .before .before .before .before .before .before .before .before .args .from + bytesOf (c .before .before .before .before .before .before .before .before .before .before .before .before .args .y .input)) ×
+    (c .before .loop .at + c .before .before .before .before .before .before .before .before .conv-outputs .result .count ≤ length (now (c .before .before .before .before .before .before .before .before .before .before .before .before .args .area)))
+next c =
+    let l = c .before in
+    let o = c .before .before .before .before .before .before .before .before .conv-outputs .result in
+    let t = c .before .before .before in
+    let s = t .before .before .before .before .before .before .before .before .before in
+    let y = s .args .y in (
+      room (l .loop .j) (y .input .columns) (y .input .channels) (s .args .from + t .before .before .times2 .result) (l .loop .inv .0) (c .loop-test .taken)
+          (omega (arith, inside (t .before .before), t .before .before .before .times .ensures .0)),
+      room (l .loop .j) (y .input .columns) (o .count) (y .place + t .times4 .result) (l .loop .inv .1) (c .loop-test .taken)
+          (omega (arith, s .pre .1 .1 .0, outside t, t .before .times3 .ensures .0)),
+    )
+
+put-within-requires : tie.Need-put-within-requires Inv-loop μ-loop
+put-within-requires c κs =
+    let l = c .before in
+    let v = l .before .loop .inv in
+    let s = l .before .before .before .before .before .before .before .before .before .before .before .before in
+    let a = s .args in
+    let one = s .pre .1 .1 .1 .1 in
+    let n = next l in
+    (plain-ready (a .y) (a .c) (s .pre .0) (a .z) (one .0) (one .1) (l .before .before .before .before .before .before .before .before .conv-outputs .ensures), (omega (arith, s .pre .1 .1 .0, v .1), omega (arith, v .2 .same)))
+
+add-start-2 : tie.Need-add-start-2 Inv-loop μ-loop
+add-start-2 c = let l = c .before .before .before .before in omega (arith, l .before .before .before .before .before .before .before .before .before .before .before .before .pre .1 .1 .0, l .before .before .before .before .before .before .before .before .before .before .before .before .good, next l)
+
+add-at-2 : tie.Need-add-at-2 Inv-loop μ-loop
+add-at-2 c = let l = c .before .before .before .before in omega (arith, l .before .before .before .before .before .before .before .before .before .before .before .before .good, next l)
+
+add-j : tie.Need-add-j Inv-loop μ-loop
+add-j c = omega arith
+
+loop-less : tie.Need-loop-less Inv-loop μ-loop
+loop-less c = omega arith
+
+loop-again : tie.Need-loop-again Inv-loop μ-loop
+loop-again c =
+    let l = c .before .before .before .before in
+    let v = l .before .loop .inv in
+    let o = l .before .before .before .before .before .before .before .before .conv-outputs .result in
+    let t = l .before .before .before in
+    let s = l .before .before .before .before .before .before .before .before .before .before .before .before in
+    let a = s .args in
+    let h = s .pre .1 .1 .0 in
+    let n = a .y .input .channels in
+    let start = a .from + t .before .before .times2 .result in
+    let to = a .y .place + t .times4 .result in
+    let put = c .before .before .put-within in (
+      omega (arith, v .0),
+      omega (arith, v .1),
+      plain-turn o (now (a .file)) (now (a .sums)) (now (a .area)) (a .y .input .columns) n start to (l .before .loop .j)
+          (omega (arith, h, inside (t .before .before), t .before .before .before .times .ensures .0)) (omega (arith, h, outside t)) (l .loop-test .taken) (v .1) (v .0) (v .2) (put .ensures) (put .kept .1 .1 .1 .0),
+    )
+
+same-length : tie.Need-same-length Inv-loop μ-loop
+same-length c = c .before .loop .inv .2 .same
+
+returns : tie.Need-returns Inv-loop μ-loop
+returns c =
+    let t = c .before .before .before in
+    let s = t .before .before .before .before .before .before .before .before .before in
+    let a = s .args in
+    let h = s .pre .1 in
+    plain-done (a .y) (a .c) (a .z) (now (a .file)) (now (a .sums)) (now (a .area)) (a .from) (a .i) (s .pre .0) (h .0 .0) (h .1 .1 .0) (h .1 .1 .1) (t .before .before .before .before .before .conv-outputs .ensures)
+    (t .before .before .before .times .ensures .0) (t .before .before .times2 .ensures .0) (line (t .before)) (t .times4 .ensures .0) (laid-done _ _ _ _ (c .before .loop .inv .2) (omega arith))
+
+pub plain-row-spec : {M : Type 1} → statement M
+plain-row-spec =
+    tie.close
+    (tie.spec
+    Inv-loop
+    μ-loop
+    conv-outputs-requires
+    times-requires
+    times-requires-2
+    add-start
+    times-requires-3
+    times-requires-4
+    add-at
+    loop-holds
+    put-within-requires
+    add-start-2
+    add-at-2
+    add-j
+    loop-less
+    loop-again
+    same-length
+    returns)

@@ -1,0 +1,97 @@
+-- `layers::row::put_row` meets its contract, kind by kind.
+-- Assumes nothing.
+use mathlib.Core.Path.{ap, ap₂, _∙_}
+use mathlib.Core.List.{List}
+use Prim.Native.Nat.{ℕ, _+_, _*_}
+use borrow.Author.Needs.{needs}
+use denote.Ref.{now}
+use Rattle.records.specs.declared.layer.Kind.the-variants.{Convolution, Fully, Addition}
+use Rattle.windows.specs.Lists.{pasted}
+use Rattle.layers.specs.Row.{rowBytes, tensorAt}
+use Rattle.layers.proofs.Rows.{ready-as, row-as, full-place}
+use Rattle.layers.proofs.row.put_row.Statement.{statement}
+use Rattle.layers.proofs.row.put_row.Tie as tie
+
+enum-known-kind : tie.Need-enum-known-kind
+enum-known-kind c = search needs
+
+conv-row-requires : tie.Need-conv-row-requires
+conv-row-requires c κs =
+    let s = c .before .before .before .before .before .before .before .before .before in
+    let r = s .pre .0 in
+    (ready-as (s .args .y) (Convolution _) (c .before .before .before .kind .given .1) r, ((r .input, r .output), ((r .before, r .within), s .pre .1)))
+
+enum-known-kind-2 : tie.Need-enum-known-kind-2
+enum-known-kind-2 c = search needs
+
+full-row-requires : tie.Need-full-row-requires
+full-row-requires c κs =
+    let s = c .before .before .before .before .before .before .before .before in
+    let r = s .pre .0 in
+    (ready-as (s .args .y) (Fully _) (c .before .before .kind2 .given .1) r, (r .input, (r .before, r .within)))
+
+enum-known-kind-3 : tie.Need-enum-known-kind-3
+enum-known-kind-3 c = search needs
+
+add-row-requires : tie.Need-add-row-requires
+add-row-requires c κs =
+    let s = c .before .before .before .before .before .before .before .before in
+    let r = s .pre .0 in
+    (ready-as (s .args .y) (Addition _) (c .before .before .kind3 .given .1) r, (r .input, ((r .before, r .other-before, r .within), s .pre .1 .0)))
+
+same-length : tie.Need-same-length
+same-length c = search needs
+
+same-length-2 : tie.Need-same-length-2
+same-length-2 c = search needs
+
+returns : tie.Need-returns
+returns c =
+    let s = c .before .before .before .before .before .before .before .before .before .before .before .before .before .before in
+    let a = s .args in
+    let d = now (a .area) in
+    let t : ℕ → List ℕ = λ from. tensorAt d from (a .y .input) in
+    c .before .before .before .before .conv-row .ensures ∙
+    ap (pasted d (a .y .place + a .i * rowBytes (a .y .output))) (row-as (a .y) (Convolution _) (c .before .before .before .before .before .before .before .before .kind .given .1) (a .z) (a .zr) (now (a .file)) (now (a .sums)) (t (a .from)) (t (a .other)) (a .i))
+
+same-length-3 : tie.Need-same-length-3
+same-length-3 c = search needs
+
+returns-2 : tie.Need-returns-2
+returns-2 c =
+    let s = c .before .before .before .before .before .before .before .before .before .before .before in
+    let a = s .args in
+    let d = now (a .area) in
+    let t : ℕ → List ℕ = λ from. tensorAt d from (a .y .input) in
+    c .before .before .full-row .ensures ∙
+    ap₂ (pasted d) (full-place (a .y) _ (a .i) (ready-as (a .y) (Fully _) (c .before .before .before .before .before .kind2 .given .1) (s .pre .0) .output) (s .pre .1 .0)) (row-as (a .y) (Fully _) (c .before .before .before .before .before .kind2 .given .1) (a .z) (a .zr) (now (a .file)) (now (a .sums)) (t (a .from)) (t (a .other)) (a .i))
+
+same-length-4 : tie.Need-same-length-4
+same-length-4 c = search needs
+
+returns-3 : tie.Need-returns-3
+returns-3 c =
+    let s = c .before .before .before .before .before .before .before .before .before .before .before in
+    let a = s .args in
+    let d = now (a .area) in
+    let t : ℕ → List ℕ = λ from. tensorAt d from (a .y .input) in
+    c .before .before .add-row .ensures ∙
+    ap (pasted d (a .y .place + a .i * rowBytes (a .y .output))) (row-as (a .y) (Addition _) (c .before .before .before .before .before .kind3 .given .1) (a .z) (a .zr) (now (a .file)) (now (a .sums)) (t (a .from)) (t (a .other)) (a .i))
+
+pub put-row-spec : {M : Type 1} → statement M
+put-row-spec =
+    tie.close
+    (tie.spec
+    enum-known-kind
+    conv-row-requires
+    enum-known-kind-2
+    full-row-requires
+    enum-known-kind-3
+    add-row-requires
+    same-length
+    same-length-2
+    returns
+    same-length-3
+    returns-2
+    same-length-4
+    returns-3)

@@ -1,0 +1,25 @@
+-- The row of a full layer: its window is the whole input tensor.
+-- Assumes nothing.
+use Prim.Native.Nat.{ℕ, _+_, _*_}
+use mathlib.Core.List.{List}
+use Rattle.records.specs.declared.full.Full.{Full}
+use Rattle.records.specs.declared.layer.Layer.{Layer}
+use Rattle.layers.specs.Outputs.{outputsOf}
+use Rattle.layers.specs.declared.outputs.Outputs.{Outputs}
+
+abbrev pub fullOutputs : Layer → Full → ℕ → Outputs
+fullOutputs y f z = record {
+  count = f .outputs;
+  biases = y .start + 14;
+  weights = y .start + 14 + 4 * f .outputs;
+  sums = y .sums;
+  z = z;
+  v = f .v;
+  zero = f .zero;
+  low = f .low;
+  high = f .high;
+  scale = f .scale;
+}
+
+abbrev pub fullRow : Layer → Full → ℕ → List ℕ → List ℕ → List ℕ → List ℕ
+fullRow y f z file sums t = outputsOf (fullOutputs y f z) file sums t

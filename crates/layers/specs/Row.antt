@@ -1,0 +1,72 @@
+-- A row of a layer of any kind, and what its work needs.
+-- Assumes nothing.
+use Prim.Native.Nat.{ℕ, _+_, _*_, _≤_}
+use mathlib.Core.Path.{_≡_}
+use mathlib.Core.List.{List}
+use lib.ListN.{length}
+use Rattle.records.specs.Shape.{bytesOf, GoodShape}
+use Rattle.records.specs.Layer.{termsOf}
+use Rattle.records.specs.Conv.{convOutput, ConvOk}
+use Rattle.records.specs.Full.{fullOutput, FullOk}
+use Rattle.records.specs.Add.{AddOk}
+use Rattle.records.specs.declared.shape.Shape.{Shape}
+use Rattle.records.specs.declared.conv.Conv.{Conv}
+use Rattle.records.specs.declared.full.Full.{Full}
+use Rattle.records.specs.declared.add.Add.{Add}
+use Rattle.records.specs.declared.layer.Kind.{Kind}
+use Rattle.records.specs.declared.layer.Kind.the-variants.{Convolution, Fully, Addition}
+use Rattle.records.specs.declared.layer.Layer.{Layer}
+use Rattle.windows.specs.Lists.{part}
+use Rattle.layers.specs.Outputs.{OutputsReady}
+use Rattle.layers.specs.Conv.{convOutputs, convRow}
+use Rattle.layers.specs.Full.{fullOutputs, fullRow}
+use Rattle.layers.specs.Add.{addRow}
+
+-- the bytes of a row
+abbrev pub rowBytes : Shape → ℕ
+rowBytes s = s .columns * s .channels
+
+-- the bytes of a tensor that begins in the area at a place
+abbrev pub tensorAt : List ℕ → ℕ → Shape → List ℕ
+tensorAt area place s = part area place (bytesOf s)
+
+-- row i of what a layer makes of tensor t, of zero-point z, and, an add, of tensor t′, of zero-point z′
+abbrev pub rowBy : Kind → Layer → ℕ → ℕ → List ℕ → List ℕ → List ℕ → List ℕ → ℕ → List ℕ
+rowBy (Convolution c) y z z′ file sums t t′ i = convRow y c z file sums t i
+rowBy (Fully f) y z z′ file sums t t′ i = fullRow y f z file sums t
+rowBy (Addition a) y z z′ file sums t t′ i = addRow a z z′ (rowBytes (y .output)) t t′ i
+
+abbrev pub rowOf : Layer → ℕ → ℕ → List ℕ → List ℕ → List ℕ → List ℕ → ℕ → List ℕ
+rowOf y = rowBy (y .kind) y
+
+-- the layer's record and sums, as tests 1 to 3 and 6 leave them
+pub record ConvReady (y : Layer) (c : Conv) (file sums : List ℕ) : Type 0 where
+  pub ok : ConvOk c
+  pub rows-fit : c .height ≤ y .input .rows + 2 * c .padding
+  pub columns-fit : c .width ≤ y .input .columns + 2 * c .padding
+  pub output : y .output ≡ convOutput (y .input) c
+  pub outputs : OutputsReady (convOutputs y c 0) (c .height * c .width * y .input .channels) file sums
+
+pub record FullReady (y : Layer) (f : Full) (file sums : List ℕ) : Type 0 where
+  pub ok : FullOk f
+  pub output : y .output ≡ fullOutput f
+  pub outputs : OutputsReady (fullOutputs y f 0) (bytesOf (y .input)) file sums
+
+pub record AddReady (y : Layer) (a : Add) : Type 0 where
+  pub ok : AddOk a
+  pub output : y .output ≡ y .input
+
+abbrev pub KindReady : Kind → Layer → List ℕ → List ℕ → Type 0
+KindReady (Convolution c) y file sums = ConvReady y c file sums
+KindReady (Fully f) y file sums = FullReady y f file sums
+KindReady (Addition a) y file sums = AddReady y a
+
+-- its inputs stand in an area of `room` bytes, from `from` and `other`, before its output
+pub record Ready (y : Layer) (file sums : List ℕ) (room from other : ℕ) : Type 0 where
+  pub input : GoodShape (y .input)
+  pub output : GoodShape (y .output)
+  pub before : from + bytesOf (y .input) ≤ y .place
+  pub other-before : other + bytesOf (y .input) ≤ y .place
+  pub within : y .place + bytesOf (y .output) ≤ room
+  pub few : room ≤ 2147483648
+  pub kind : KindReady (y .kind) y file sums

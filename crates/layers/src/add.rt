@@ -1,0 +1,61 @@
+// One row of an add.
+ghost use mathlib.Core.Path.{_≡_};
+ghost use Prim.Native.Nat.{_+_, _*_, _≤_, _<_};
+ghost use lib.ListN.{length};
+ghost use Rattle.records.specs.Shape.{bytesOf, GoodShape};
+ghost use Rattle.records.specs.Add.{AddOk};
+ghost use Rattle.windows.specs.Lists.{pasted};
+ghost use Rattle.layers.specs.Add.{addByte, addRow};
+ghost use Rattle.layers.specs.Row.{AddReady, rowBytes, tensorAt};
+use numbers::addition::lift;
+use numbers::addition::sum;
+use numbers::finish::finish;
+use records::add::Add;
+use records::layer::Layer;
+use windows::window::times;
+
+// The output byte of q, with zero-point z, and r, with zero-point zr.
+fn add_byte(a: Add, z: u8, zr: u8, q: u8, r: u8) -> u8
+    requires { ⌜ AddOk a ⌝ }
+    ensures { λ b. ⌜ b ≡ addByte a z zr q r ⌝ }
+{
+    let first = lift(q, z, a.first.multiplier, a.first.shift);
+    let second = lift(r, zr, a.second.multiplier, a.second.shift);
+    finish(
+        sum(first, second, a.third.multiplier, a.third.shift),
+        a.zero,
+        a.low,
+        a.high,
+    )
+}
+
+// Row i of an add of the tensors that stand in area from `from` and from `other`, to its place.
+pub fn add_row(
+    y: Layer,
+    a: Add,
+    z: u8,
+    zr: u8,
+    area: &mut [u8],
+    from: usize,
+    other: usize,
+    i: usize,
+)
+    requires { ⌜ AddReady y a ⌝ }
+    requires { ⌜ GoodShape (y .input) ⌝ }
+    requires { ⌜ (from + bytesOf (y .input) ≤ y .place) × (other + bytesOf (y .input) ≤ y .place) × (y .place + bytesOf (y .output) ≤ length (now area)) ⌝ }
+    requires { ⌜ i < y .output .rows ⌝ }
+    ensures { λ _. ⌜ now (area .exit) ≡ pasted (now (area .entry)) (y .place + i * rowBytes (y .output)) (addRow a z zr (rowBytes (y .output)) (tensorAt (now (area .entry)) from (y .input)) (tensorAt (now (area .entry)) other (y .input)) i) ⌝ }
+{
+    let output = y.output;
+    let w = times(output.columns, output.channels);
+    let skip = times(i, w);
+    let q = from + skip;
+    let r = other + skip;
+    let at = y.place + skip;
+    let mut k = 0;
+    while k < w {
+        let b = add_byte(a, z, zr, area[q + k], area[r + k]);
+        area[at + k] = b;
+        k += 1;
+    }
+}

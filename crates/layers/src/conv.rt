@@ -1,0 +1,178 @@
+// One row of a convolution.
+ghost use mathlib.Core.Path.{_≡_};
+ghost use Prim.Native.Nat.{_+_, _*_, _≤_, _<_};
+ghost use lib.ListN.{length};
+ghost use Rattle.records.specs.Shape.{bytesOf, GoodShape};
+ghost use Rattle.windows.specs.Lists.{pasted};
+ghost use Rattle.windows.specs.Window.{Sound, sizeOf, termsOf, windowOf};
+ghost use Rattle.windows.specs.Lists.{part};
+ghost use Rattle.layers.specs.Outputs.{OutputsReady, outputsOf};
+ghost use Rattle.layers.specs.Conv.{windowFor, convOutputs, convRow};
+ghost use Rattle.layers.specs.Row.{ConvReady, rowBytes, tensorAt};
+use crate::outputs::Outputs;
+use crate::outputs::put_outputs;
+use crate::outputs::put_within;
+use records::conv::Conv;
+use records::layer::Layer;
+use windows::window::Window;
+use windows::window::gather;
+use windows::window::times;
+
+fn window_for(y: Layer, c: Conv, z: u8) -> Window
+    ensures { λ r. ⌜ r ≡ windowFor y c z ⌝ }
+{
+    let input = y.input;
+    Window {
+        rows: input.rows,
+        columns: input.columns,
+        channels: input.channels,
+        zero: z,
+        height: c.height as usize,
+        width: c.width as usize,
+        top: c.padding as usize,
+        left: c.padding as usize,
+    }
+}
+
+fn conv_outputs(y: Layer, c: Conv, z: u8) -> Outputs
+    requires { ⌜ y .start ≤ 65536 ⌝ }
+    ensures { λ r. ⌜ r ≡ convOutputs y c z ⌝ }
+{
+    let scale = c.scale;
+    Outputs {
+        count: c.filters as usize,
+        biases: y.start + 16,
+        weights: y.start + 16 + 4 * c.filters as usize,
+        sums: y.sums,
+        z,
+        v: c.v,
+        zero: c.zero,
+        low: c.low,
+        high: c.high,
+        scale,
+    }
+}
+
+// The outputs at the window from row p, column q of the padded tensor that stands in area from `from`, to area from at.
+// What the patch holds afterwards is not said.
+fn conv_place(
+    w: Window,
+    o: Outputs,
+    file: &[u8],
+    sums: &[u32],
+    area: &mut [u8],
+    patch: &mut [u8],
+    from: usize,
+    at: usize,
+    p: usize,
+    q: usize,
+)
+    requires { ⌜ Sound w ⌝ }
+    requires { ⌜ OutputsReady o (termsOf w) (now file) (now sums) ⌝ }
+    requires { ⌜ (from + sizeOf w ≤ at) × (at + o .count ≤ length (now area)) ⌝ }
+    requires { ⌜ (q ≤ w .columns + w .left) × (p ≤ 131072) × (termsOf w ≤ length (now patch)) ⌝ }
+    ensures { λ _. ⌜ now (area .exit) ≡ pasted (now (area .entry)) at (outputsOf o (now (file .entry)) (now (sums .entry)) (windowOf w (part (now (area .entry)) from (sizeOf w)) p q)) ⌝ }
+{
+    let n = times(times(w.height, w.width), w.channels);
+    let end = from + times(times(w.rows, w.columns), w.channels);
+    gather(w, &area[from..end], patch, p, q);
+    put_outputs(o, file, sums, &patch[..n], area, at);
+}
+
+// Row i, place after place.
+fn gathered_row(
+    y: Layer,
+    c: Conv,
+    z: u8,
+    file: &[u8],
+    sums: &[u32],
+    area: &mut [u8],
+    patch: &mut [u8],
+    from: usize,
+    i: usize,
+)
+    requires { ⌜ ConvReady y c (now file) (now sums) ⌝ }
+    requires { ⌜ (GoodShape (y .input)) × (GoodShape (y .output)) ⌝ }
+    requires { ⌜ (from + bytesOf (y .input) ≤ y .place) × (y .place + bytesOf (y .output) ≤ length (now area)) ⌝ }
+    requires { ⌜ (i < y .output .rows) × (12544 ≤ length (now patch)) ⌝ }
+    ensures { λ _. ⌜ now (area .exit) ≡ pasted (now (area .entry)) (y .place + i * rowBytes (y .output)) (convRow y c z (now (file .entry)) (now (sums .entry)) (tensorAt (now (area .entry)) from (y .input)) i) ⌝ }
+{
+    let w = window_for(y, c, z);
+    let o = conv_outputs(y, c, z);
+    let output = y.output;
+    let across = output.columns;
+    let filters = o.count;
+    let stride = c.stride as usize;
+    let p = times(i, stride);
+    let mut at = y.place + times(i, times(across, filters));
+    let mut q = 0;
+    let mut j = 0;
+    while j < across {
+        conv_place(w, o, file, sums, area, patch, from, at, p, q);
+        at += filters;
+        q += stride;
+        j += 1;
+    }
+}
+
+// Row i of a kernel of one cell with stride 1 and no padding: every window stands in the area as it is.
+fn plain_row(
+    y: Layer,
+    c: Conv,
+    z: u8,
+    file: &[u8],
+    sums: &[u32],
+    area: &mut [u8],
+    from: usize,
+    i: usize,
+)
+    requires { ⌜ ConvReady y c (now file) (now sums) ⌝ }
+    requires { ⌜ (GoodShape (y .input)) × (GoodShape (y .output)) ⌝ }
+    requires { ⌜ (from + bytesOf (y .input) ≤ y .place) × (y .place + bytesOf (y .output) ≤ length (now area)) ⌝ }
+    requires { ⌜ (i < y .output .rows) × ((c .height ≡ 1) × (c .width ≡ 1) × (c .stride ≡ 1)) ⌝ }
+    ensures { λ _. ⌜ now (area .exit) ≡ pasted (now (area .entry)) (y .place + i * rowBytes (y .output)) (convRow y c z (now (file .entry)) (now (sums .entry)) (tensorAt (now (area .entry)) from (y .input)) i) ⌝ }
+{
+    let o = conv_outputs(y, c, z);
+    let input = y.input;
+    let across = input.columns;
+    let n = input.channels;
+    let filters = o.count;
+    let mut start = from + times(i, times(across, n));
+    let mut at = y.place + times(i, times(across, filters));
+    let mut j = 0;
+    while j < across {
+        put_within(o, file, sums, area, start, n, at);
+        start += n;
+        at += filters;
+        j += 1;
+    }
+}
+
+// Row i of a convolution of the tensor that stands in area from `from`, to its place.
+pub fn conv_row(
+    y: Layer,
+    c: Conv,
+    z: u8,
+    file: &[u8],
+    sums: &[u32],
+    area: &mut [u8],
+    patch: &mut [u8],
+    from: usize,
+    i: usize,
+)
+    requires { ⌜ ConvReady y c (now file) (now sums) ⌝ }
+    requires { ⌜ (GoodShape (y .input)) × (GoodShape (y .output)) ⌝ }
+    requires { ⌜ (from + bytesOf (y .input) ≤ y .place) × (y .place + bytesOf (y .output) ≤ length (now area)) ⌝ }
+    requires { ⌜ (i < y .output .rows) × (12544 ≤ length (now patch)) ⌝ }
+    ensures { λ _. ⌜ now (area .exit) ≡ pasted (now (area .entry)) (y .place + i * rowBytes (y .output)) (convRow y c z (now (file .entry)) (now (sums .entry)) (tensorAt (now (area .entry)) from (y .input)) i) ⌝ }
+{
+    if c.height == 1 {
+        if c.width == 1 {
+            if c.stride == 1 {
+                plain_row(y, c, z, file, sums, area, from, i);
+                return;
+            }
+        }
+    }
+    gathered_row(y, c, z, file, sums, area, patch, from, i);
+}

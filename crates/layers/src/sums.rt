@@ -1,0 +1,63 @@
+// The sums of a layer's weights, into the sum store.
+ghost use mathlib.Core.Path.{_≡_};
+ghost use Prim.Native.Nat.{_+_, _*_, _≤_};
+ghost use lib.ListN.{length};
+ghost use Rattle.records.specs.Shape.{GoodShape};
+ghost use Rattle.records.specs.Layer.{sumsOf, termsOf, weightsAt};
+ghost use Rattle.windows.specs.Lists.{pasted};
+ghost use Rattle.layers.specs.Sums.{layerSums};
+use records::layer::Kind;
+use records::layer::Layer;
+use records::layer::sums_of;
+use records::shape::bytes_of;
+use windows::sums::byte_total;
+use windows::window::times;
+
+// N: the terms of each output of a layer.
+pub fn terms(y: Layer) -> usize
+    requires { ⌜ GoodShape (y .input) ⌝ }
+    ensures { λ r. ⌜ r ≡ termsOf (y .kind) (y .input) ⌝ }
+{
+    let input = y.input;
+    let kind = y.kind;
+    match kind {
+        Kind::Convolution(c) => times(times(c.height as usize, c.width as usize), input.channels),
+        Kind::Fully(_) => bytes_of(input),
+        Kind::Addition(_) => 0,
+    }
+}
+
+// Where a layer's weights begin in the file.
+fn weights_at(y: Layer) -> usize
+    requires { ⌜ y .start ≤ 65536 ⌝ }
+    ensures { λ r. ⌜ r ≡ weightsAt y ⌝ }
+{
+    let kind = y.kind;
+    match kind {
+        Kind::Convolution(c) => y.start + 16 + 4 * c.filters as usize,
+        Kind::Fully(f) => y.start + 14 + 4 * f.outputs as usize,
+        Kind::Addition(_) => y.start + 22,
+    }
+}
+
+// The true sums of a layer, to their places in the store.
+pub fn put_sums(y: Layer, file: &[u8], sums: &mut [u32])
+    requires { ⌜ GoodShape (y .input) ⌝ }
+    requires { ⌜ (weightsAt y + sumsOf (y .kind) * termsOf (y .kind) (y .input) ≤ length (now file)) × (length (now file) ≤ 65536) ⌝ }
+    requires { ⌜ termsOf (y .kind) (y .input) ≤ 16384 ⌝ }
+    requires { ⌜ y .sums + sumsOf (y .kind) ≤ length (now sums) ⌝ }
+    ensures { λ _. ⌜ now (sums .exit) ≡ pasted (now (sums .entry)) (y .sums) (layerSums y (now (file .entry))) ⌝ }
+{
+    let n = terms(y);
+    let at = y.sums;
+    let kind = y.kind;
+    let count = sums_of(kind);
+    let mut a = weights_at(y);
+    let mut f = 0;
+    while f < count {
+        let e = a + n;
+        sums[at + f] = byte_total(&file[a..e]);
+        a = e;
+        f += 1;
+    }
+}
