@@ -5,12 +5,17 @@ use mathlib.Core.List.{List, [], _∷_}
 use Prim.Native.Nat.{ℕ, _^_}
 use lib.IntN.{ℤ, pos}
 use Rattle.records.specs.Bytes.{signed}
-use Rattle.records.specs.Conv.{convAt}
+use Rattle.records.specs.Faults.{first, within, clampFault, paddingFault, cutFault, biasFault}
+use Rattle.records.specs.Shape.{bytesOf, sizeFault}
+use Rattle.records.specs.Stored.{biasFaults, storedLen, storedFault}
+use Rattle.records.specs.Layer.{answer}
+use Rattle.records.specs.Conv.{convOutput, convShape, convTerms, readConvAs, readConv}
 use Rattle.records.specs.declared.shape.Shape.{Shape}
 use Rattle.records.specs.declared.conv.Conv.{Conv}
 use Rattle.records.specs.declared.add.Add.{Add}
 use Rattle.records.specs.declared.layer.Kind.the-variants.{Convolution}
 use Rattle.records.specs.declared.layer.Layer.{Layer}
+use Rattle.records.specs.declared.layer.Read.the-variants.{Found}
 use Rattle.windows.specs.Lists.{joined}
 use Rattle.windows.specs.Window.{cellOf, stripOf, windowOf}
 use Rattle.layers.specs.Outputs.{totalAt, outputOf, outputsOf}
@@ -31,18 +36,19 @@ abbrev column : Shape
 column = record { rows = 3; columns = 1; channels = 1 }
 
 abbrev conv : Conv
-conv = record {
-  filters = 1;
-  height = 3;
-  width = 3;
-  stride = 1;
-  padding = 1;
-  v = 0;
-  zero = 0;
-  low = 0;
-  high = 255;
-  scale = record { multiplier = 2 ^ 30; shift = 0 };
-}
+conv =
+    record {
+      filters = 1;
+      height = 3;
+      width = 3;
+      stride = 1;
+      padding = 1;
+      v = 0;
+      zero = 0;
+      low = 0;
+      high = 255;
+      scale = record { multiplier = 2 ^ 30; shift = 0 };
+    }
 
 -- K's layer
 abbrev layer : Layer
@@ -51,9 +57,11 @@ layer = record { input = column; output = column; kind = Convolution conv; start
 abbrev picture : List ℕ
 picture = 20 ∷ 30 ∷ 40 ∷ []
 
--- its fields are those of K's record
-pub fields : convAt K 10 ≡ conv
-fields = refl
+-- it is what K's record is read as
+pub layer-read : readConv K 10 column 3 0 ≡ Found layer 39
+unfolding readConvAs answer first within clampFault paddingFault convShape convOutput convTerms sizeFault bytesOf
+    storedLen storedFault cutFault biasFaults biasFault signed
+layer-read = refl
 
 -- K has sum 9
 pub P1 : layerSums layer K ≡ 9 ∷ []
@@ -84,15 +92,16 @@ P5 = refl
 
 -- multipliers all 2^30, shifts 0, 0, 18, output zero-point 5, clamp 0..255
 abbrev add : Add
-add = record {
-  other = 0;
-  zero = 5;
-  low = 0;
-  high = 255;
-  first = record { multiplier = 2 ^ 30; shift = 0 };
-  second = record { multiplier = 2 ^ 30; shift = 0 };
-  third = record { multiplier = 2 ^ 30; shift = 18 };
-}
+add =
+    record {
+      other = 0;
+      zero = 5;
+      low = 0;
+      high = 255;
+      first = record { multiplier = 2 ^ 30; shift = 0 };
+      second = record { multiplier = 2 ^ 30; shift = 0 };
+      third = record { multiplier = 2 ^ 30; shift = 18 };
+    }
 
 -- the add of 20 and 30, zero-points 10, is 35
 pub P9 : addByte add 10 10 20 30 ≡ 35
