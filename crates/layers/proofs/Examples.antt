@@ -54,10 +54,7 @@ conv =
 abbrev layer : Layer
 layer = record { input = column; output = column; kind = Convolution conv; start = 10; place = 3; sums = 0 }
 
-abbrev picture : List ℕ
-picture = 20 ∷ 30 ∷ 40 ∷ []
-
--- it is what K's record is read as
+-- K's record is read as that layer
 pub layer-read : readConv K 10 column 3 0 ≡ Found layer 39
 unfolding readConvAs answer first within clampFault paddingFault convShape convOutput convTerms sizeFault bytesOf
     storedLen storedFault cutFault biasFaults biasFault signed
@@ -68,7 +65,10 @@ pub P1 : layerSums layer K ≡ 9 ∷ []
 unfolding layerSums joined
 P1 = refl
 
--- the total at row i, with the stored sum t and the zero-point 10
+abbrev picture : List ℕ
+picture = 20 ∷ 30 ∷ 40 ∷ []
+
+-- the total at row i of the picture, with the stored sum t and the zero-point 10
 abbrev total-at : ℕ → ℕ → ℤ
 total-at t i = totalAt (convOutputs layer conv 10) K (t ∷ []) (windowOf (windowFor layer conv 10) picture i 0) 0
 
