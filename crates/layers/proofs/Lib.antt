@@ -1,6 +1,10 @@
--- Laws that belong to no one function.
+-- Laws that belong to no one function, and the examples.
 pub mod Convs
+pub mod Direct
+pub mod Examples
 pub mod Laid
+pub mod Lengths
+pub mod Local
 pub mod Rows
 pub mod Totals
 pub mod Weights
