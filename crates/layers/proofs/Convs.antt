@@ -6,7 +6,7 @@ use Prim.Native.Nat.{ℕ, _+_, _-_, _*_, _/_, _≤_, _<_}
 use native.Mathlib.Nat.{mul-le-mul-left, mul-le-mul-right, div-add-mod'}
 use native.Mathlib.Omega.{arith}
 use lib.ListN.{length, take}
-use Rattle.records.specs.Shape.{bytesOf, GoodShape}
+use Rattle.records.specs.Shape.{bytesOf, GoodShape, rowBytes}
 use Rattle.records.specs.Conv.{convOutput}
 use Rattle.records.specs.declared.shape.Shape.{Shape}
 use Rattle.records.specs.declared.conv.Conv.{Conv}
@@ -19,7 +19,7 @@ use Rattle.windows.proofs.Pasted.{part-length, part-part, part-pasted, joined-s
 use Rattle.windows.proofs.Windows.{window-length, window-plain}
 use Rattle.layers.specs.Outputs.{OutputsReady, outputsOf}
 use Rattle.layers.specs.Conv.{windowFor, convOutputs, convRow}
-use Rattle.layers.specs.Row.{ConvReady, rowBytes, tensorAt}
+use Rattle.layers.specs.Row.{ConvReady, tensorAt}
 use Rattle.layers.specs.declared.outputs.Outputs.{Outputs}
 use Rattle.layers.proofs.Laid.{Laid, room, laid-more, laid-before, cut-is}
 use Rattle.layers.proofs.Rows.{row-in}
@@ -141,10 +141,13 @@ module _ (y : Layer) (c : Conv) {file sums : List ℕ} (r : ConvReady y c file s
     place-ready z i j from ew eo hi hj ep eq hf hr hp =
         let sound = window-sound z in
         let taps = taps-few (windowFor y c z) sound in
-        let terms : termsOf (windowFor y c z) ≤ 12544 = mul-most (c .height * c .width) (y .input .channels) 49 256 taps (g .channels-few) in
-        (rw ew sound,
-          (rw (eo, ew) (ready-any (convOutputs y c 0) z _ (r .outputs)),
-            ((rw ew hf, hr), (rw (ew, eq) (column-at j hj), rw ep (row-at i hi), rw ew (omega arith)))))
+        let terms : termsOf (windowFor y c z) ≤ 12544 = mul-most (c .height * c .width) (y .input .channels) 49 256 taps (g .channels-few) in (
+          rw ew sound,
+          (
+            rw (eo, ew) (ready-any (convOutputs y c 0) z _ (r .outputs)),
+            ((rw ew hf, hr), (rw (ew, eq) (column-at j hj), rw ep (row-at i hi), rw ew (omega arith))),
+          ),
+        )
 
 -- one more place of a row, of the tensor that stands in the area before it
 pub place-turn :

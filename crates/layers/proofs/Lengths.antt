@@ -5,6 +5,7 @@ use mathlib.Core.List.{List, [], _∷_}
 use Prim.Native.Nat.{ℕ, _*_}
 use native.Mathlib.Nat.{mul-one, one-mul}
 use lib.ListN.{length}
+use Rattle.records.specs.Shape.{rowBytes}
 use Rattle.records.specs.Layer.{sumsOf}
 use Rattle.records.specs.Conv.{convOutput}
 use Rattle.records.specs.Full.{fullOutput}
@@ -17,7 +18,7 @@ use Rattle.layers.specs.Outputs.{outputOf, outputsOf}
 use Rattle.layers.specs.Conv.{convRow}
 use Rattle.layers.specs.Full.{fullOutputs}
 use Rattle.layers.specs.Add.{addRow}
-use Rattle.layers.specs.Row.{rowBytes, rowBy, rowOf, KindReady}
+use Rattle.layers.specs.Row.{rowBy, rowOf, KindReady}
 use Rattle.layers.specs.Sums.{weightSum, layerSums}
 use Rattle.layers.specs.declared.outputs.Outputs.{Outputs}
 

@@ -10,7 +10,7 @@ use lib.ListN.{length, getD, drop}
 use lib.Seq.{getD-take, getD-drop, take-all}
 use Rattle.numbers.specs.Total.{sum}
 use Rattle.records.specs.Bytes.{i32At}
-use Rattle.records.specs.Shape.{bytesOf}
+use Rattle.records.specs.Shape.{bytesOf, rowBytes}
 use Rattle.records.specs.Stored.{storedLen}
 use Rattle.records.specs.Layer.{sumsOf, termsOf, fixedOf, biasesAt, weightsAt, recordLen}
 use Rattle.records.specs.Full.{fullOutput}
@@ -30,7 +30,7 @@ use Rattle.layers.specs.Outputs.{weightsOf, outputOf, outputsOf}
 use Rattle.layers.specs.Conv.{windowFor, convOutputs, convRow}
 use Rattle.layers.specs.Full.{fullOutputs, fullRow}
 use Rattle.layers.specs.Add.{addRow}
-use Rattle.layers.specs.Row.{rowBytes, rowBy, rowOf}
+use Rattle.layers.specs.Row.{rowBy, rowOf}
 use Rattle.layers.specs.Sums.{layerSums}
 use Rattle.layers.specs.declared.outputs.Outputs.{Outputs}
 use Rattle.layers.proofs.Lengths.{ShapedBy}

@@ -6,7 +6,7 @@ use Prim.Native.Nat.{ℕ, _+_, _-_, _*_, _≤_, _<_}
 use native.Mathlib.Nat.{mul-le-mul-right, mul-one}
 use native.Mathlib.Omega.{arith}
 use lib.ListN.{length, getD}
-use Rattle.records.specs.Shape.{bytesOf}
+use Rattle.records.specs.Shape.{bytesOf, rowBytes}
 use Rattle.records.specs.Conv.{convOutput}
 use Rattle.records.specs.Full.{fullOutput}
 use Rattle.records.specs.declared.shape.Shape.{Shape}
@@ -20,7 +20,7 @@ use Rattle.windows.proofs.Pasted.{joined-length, joined-same}
 use Rattle.layers.specs.Conv.{convOutputs, convRow}
 use Rattle.layers.specs.Full.{fullOutputs}
 use Rattle.layers.specs.Add.{addByte, addRow}
-use Rattle.layers.specs.Row.{rowBytes, tensorAt, rowBy, rowOf, KindReady, Ready}
+use Rattle.layers.specs.Row.{tensorAt, rowBy, rowOf, KindReady, Ready}
 use Rattle.layers.proofs.Laid.{Laid, part-at, laid-more, laid-before}
 use Rattle.layers.proofs.Totals.{outputs-length}
 

@@ -4,7 +4,7 @@ use Prim.Native.Nat.{ℕ, _+_, _*_, _≤_}
 use mathlib.Core.Path.{_≡_}
 use mathlib.Core.List.{List}
 use lib.ListN.{length}
-use Rattle.records.specs.Shape.{bytesOf, GoodShape}
+use Rattle.records.specs.Shape.{bytesOf, GoodShape, rowBytes}
 use Rattle.records.specs.Layer.{termsOf}
 use Rattle.records.specs.Conv.{convOutput, ConvOk}
 use Rattle.records.specs.Full.{fullOutput, FullOk}
@@ -21,10 +21,6 @@ use Rattle.layers.specs.Outputs.{OutputsReady}
 use Rattle.layers.specs.Conv.{convOutputs, convRow}
 use Rattle.layers.specs.Full.{fullOutputs, fullRow}
 use Rattle.layers.specs.Add.{addRow}
-
--- the bytes of a row
-abbrev pub rowBytes : Shape → ℕ
-rowBytes s = s .columns * s .channels
 
 -- the bytes of a tensor that begins in the area at a place
 abbrev pub tensorAt : List ℕ → ℕ → Shape → List ℕ

@@ -2,11 +2,11 @@
 ghost use mathlib.Core.Path.{_≡_};
 ghost use Prim.Native.Nat.{_+_, _*_, _≤_, _<_};
 ghost use lib.ListN.{length};
-ghost use Rattle.records.specs.Shape.{bytesOf, GoodShape};
+ghost use Rattle.records.specs.Shape.{bytesOf, GoodShape, rowBytes};
 ghost use Rattle.records.specs.Add.{AddOk};
 ghost use Rattle.windows.specs.Lists.{pasted};
 ghost use Rattle.layers.specs.Add.{addByte, addRow};
-ghost use Rattle.layers.specs.Row.{AddReady, rowBytes, tensorAt};
+ghost use Rattle.layers.specs.Row.{AddReady, tensorAt};
 use numbers::addition::lift;
 use numbers::addition::sum;
 use numbers::finish::finish;

@@ -2,13 +2,13 @@
 ghost use mathlib.Core.Path.{_≡_};
 ghost use Prim.Native.Nat.{_+_, _*_, _≤_, _<_};
 ghost use lib.ListN.{length};
-ghost use Rattle.records.specs.Shape.{bytesOf, GoodShape};
+ghost use Rattle.records.specs.Shape.{bytesOf, GoodShape, rowBytes};
 ghost use Rattle.windows.specs.Lists.{pasted};
 ghost use Rattle.windows.specs.Window.{Sound, sizeOf, termsOf, windowOf};
 ghost use Rattle.windows.specs.Lists.{part};
 ghost use Rattle.layers.specs.Outputs.{OutputsReady, outputsOf};
 ghost use Rattle.layers.specs.Conv.{windowFor, convOutputs, convRow};
-ghost use Rattle.layers.specs.Row.{ConvReady, rowBytes, tensorAt};
+ghost use Rattle.layers.specs.Row.{ConvReady, tensorAt};
 use crate::outputs::Outputs;
 use crate::outputs::put_outputs;
 use crate::outputs::put_within;

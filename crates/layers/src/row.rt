@@ -2,8 +2,9 @@
 ghost use mathlib.Core.Path.{_≡_};
 ghost use Prim.Native.Nat.{_+_, _-_, _*_, _≤_, _<_};
 ghost use lib.ListN.{length};
+ghost use Rattle.records.specs.Shape.{rowBytes};
 ghost use Rattle.windows.specs.Lists.{pasted, joined};
-ghost use Rattle.layers.specs.Row.{Ready, rowOf, rowBytes, tensorAt};
+ghost use Rattle.layers.specs.Row.{Ready, rowOf, tensorAt};
 use crate::add::add_row;
 use crate::conv::conv_row;
 use crate::full::full_row;

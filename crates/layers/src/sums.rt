@@ -9,23 +9,8 @@ ghost use Rattle.layers.specs.Sums.{layerSums};
 use records::layer::Kind;
 use records::layer::Layer;
 use records::layer::sums_of;
-use records::shape::bytes_of;
+use records::layer::terms_of;
 use windows::sums::byte_total;
-use windows::window::times;
-
-// N: the terms of each output of a layer.
-pub fn terms(y: Layer) -> usize
-    requires { ⌜ GoodShape (y .input) ⌝ }
-    ensures { λ r. ⌜ r ≡ termsOf (y .kind) (y .input) ⌝ }
-{
-    let input = y.input;
-    let kind = y.kind;
-    match kind {
-        Kind::Convolution(c) => times(times(c.height as usize, c.width as usize), input.channels),
-        Kind::Fully(_) => bytes_of(input),
-        Kind::Addition(_) => 0,
-    }
-}
 
 // Where a layer's weights begin in the file.
 fn weights_at(y: Layer) -> usize
@@ -48,7 +33,7 @@ pub fn put_sums(y: Layer, file: &[u8], sums: &mut [u32])
     requires { ⌜ y .sums + sumsOf (y .kind) ≤ length (now sums) ⌝ }
     ensures { λ _. ⌜ now (sums .exit) ≡ pasted (now (sums .entry)) (y .sums) (layerSums y (now (file .entry))) ⌝ }
 {
-    let n = terms(y);
+    let n = terms_of(y);
     let at = y.sums;
     let kind = y.kind;
     let count = sums_of(kind);

@@ -6,10 +6,10 @@ use Prim.Native.Nat.{ℕ, _+_, _*_, _-_, _≤_}
 use native.Mathlib.Omega.{arith}
 use denote.Ref.{now}
 use lib.ListN.{length, getD}
-use Rattle.records.specs.Shape.{bytesOf, GoodShape}
+use Rattle.records.specs.Shape.{bytesOf, GoodShape, rowBytes}
 use Rattle.windows.specs.Lists.{pasted, part}
 use Rattle.layers.specs.Add.{addByte, addRow}
-use Rattle.layers.specs.Row.{rowBytes, tensorAt}
+use Rattle.layers.specs.Row.{tensorAt}
 use Rattle.layers.proofs.Laid.{Laid, laid-none, laid-store, laid-done, laid-at}
 use Rattle.layers.proofs.Rows.{row-in, row-skip, add-done}
 use Rattle.layers.proofs.add.add_row.Statement.{statement}

@@ -5,10 +5,9 @@ use Prim.Native.Nat.{ℕ, _+_, _*_, _-_, _≤_, _<_}
 use native.Mathlib.Omega.{arith}
 use denote.Ref.{now}
 use lib.ListN.{length}
-use Rattle.records.specs.Shape.{bytesOf}
+use Rattle.records.specs.Shape.{bytesOf, rowBytes}
 use Rattle.windows.specs.Lists.{part}
 use Rattle.layers.specs.Outputs.{outputsOf}
-use Rattle.layers.specs.Row.{rowBytes}
 use Rattle.layers.specs.declared.outputs.Outputs.{Outputs}
 use Rattle.layers.proofs.Convs.{filters-are, plain-rows, plain-columns, plain-ready, plain-turn, plain-done}
 use Rattle.layers.proofs.Laid.{Laid, room, laid-none, laid-done}

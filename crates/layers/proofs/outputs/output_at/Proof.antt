@@ -70,9 +70,10 @@ output-requires c κs =
     let s = c .before .before .before .before .before .before .before .before .before .before in
     let a = s .args in
     let ready = s .pre .0 in
-    let small : natAbs (toZ w32 (ofZ w32 (c .before .before .before .signed-of .result))) ≤ 2 ^ 30 = rw (bias (c .before .before .before)) (ready .biases-small (a .f) (s .pre .1 .0)) in
-    ((sym (cut-length (now (a .file)) (a .o .weights + a .f * length (now (a .q))) (length (now (a .q))) (inside s)), ready .terms-few, s .pre .1 .1),
-      ((small, ready .sums-small (a .f) (s .pre .1 .0)), (ready .clamp, ready .multiplier-few, ready .shift-few)))
+    let small : natAbs (toZ w32 (ofZ w32 (c .before .before .before .signed-of .result))) ≤ 2 ^ 30 = rw (bias (c .before .before .before)) (ready .biases-small (a .f) (s .pre .1 .0)) in (
+      (sym (cut-length (now (a .file)) (a .o .weights + a .f * length (now (a .q))) (length (now (a .q))) (inside s)), ready .terms-few, s .pre .1 .1),
+      ((small, ready .sums-small (a .f) (s .pre .1 .0)), (ready .clamp, ready .multiplier-few, ready .shift-few)),
+    )
 
 returns : tie.Need-returns
 returns c =

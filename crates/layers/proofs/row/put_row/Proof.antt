@@ -5,9 +5,10 @@ use mathlib.Core.List.{List}
 use Prim.Native.Nat.{ℕ, _+_, _*_}
 use borrow.Author.Needs.{needs}
 use denote.Ref.{now}
+use Rattle.records.specs.Shape.{rowBytes}
 use Rattle.records.specs.declared.layer.Kind.the-variants.{Convolution, Fully, Addition}
 use Rattle.windows.specs.Lists.{pasted}
-use Rattle.layers.specs.Row.{rowBytes, tensorAt}
+use Rattle.layers.specs.Row.{tensorAt}
 use Rattle.layers.proofs.Rows.{ready-as, row-as, full-place}
 use Rattle.layers.proofs.row.put_row.Statement.{statement}
 use Rattle.layers.proofs.row.put_row.Tie as tie

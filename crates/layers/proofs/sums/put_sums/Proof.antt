@@ -20,8 +20,8 @@ Inv-loop file sums₀ n at count a₀ f₀ sums a f =
 abbrev μ-loop : tie.MeasureT-loop
 μ-loop file sums₀ n at count a₀ f₀ sums a f = count - f
 
-terms-requires : tie.Need-terms-requires Inv-loop μ-loop
-terms-requires c κs = c .before .before .pre .0
+terms-of-requires : tie.Need-terms-of-requires Inv-loop μ-loop
+terms-of-requires c κs = c .before .before .pre .0
 
 sums-of-requires : tie.Need-sums-of-requires Inv-loop μ-loop
 sums-of-requires c κs = tt
@@ -33,11 +33,11 @@ loop-holds : tie.Need-loop-holds Inv-loop μ-loop
 loop-holds c = (omega arith, laid-none _ _ _ _)
 
 -- the weights of output f stand in the file
-inside : (c : tie.In-loop Inv-loop μ-loop) → c .before .loop .a + c .before .before .before .before .terms .result ≤ length (now (c .before .before .before .before .before .before .before .args .file))
+inside : (c : tie.In-loop Inv-loop μ-loop) → c .before .loop .a + c .before .before .before .before .terms-of .result ≤ length (now (c .before .before .before .before .before .before .before .args .file))
 inside c =
     let s = c .before .before .before .before .before .before .before in
     let w = c .before .before in
-    let n = w .before .before .terms in
+    let n = w .before .before .terms-of in
     let count = w .before .sums-of in
     let at = w .weights-at in
     room (c .before .loop .f) (count .result) (n .result) (at .result) (c .before .loop .inv .0) (c .loop-test .taken) (rw (n .ensures, count .ensures, at .ensures) (s .pre .1 .0 .0))
@@ -58,7 +58,7 @@ byte-total-requires : tie.Need-byte-total-requires Inv-loop μ-loop
 byte-total-requires c κs =
     let l = c .before in
     let s = l .before .before .before .before .before .before .before in
-    let n = l .before .before .before .before .terms in
+    let n = l .before .before .before .before .terms-of in
     rw (cut-length (now (s .args .file)) (l .before .loop .a) (n .result) (inside l), n .ensures) (s .pre .1 .1 .0)
 
 add-sums : tie.Need-add-sums Inv-loop μ-loop
@@ -82,7 +82,7 @@ loop-again c =
     let v = l .before .loop .inv in
     let a = l .before .before .before .before .before .before .before .args in
     let file = now (a .file) in
-    let n = l .before .before .before .before .terms .result in
+    let n = l .before .before .before .before .terms-of .result in
     let at = l .before .before .weights-at .result in (
       omega arith,
       laid-store (l .before .before .before .sums-of .result) (λ i. sum (part file (at + i * n) n)) (now (a .sums)) (a .y .sums) (l .before .loop .f)
@@ -98,7 +98,7 @@ returns c =
     let w = c .before .before in
     let a = w .before .before .before .before .before .args in
     laid-done _ _ _ _ (c .before .loop .inv .1) (omega arith) ∙
-    ap (pasted (now (a .sums)) (a .y .sums)) (sums-are (a .y) (now (a .file)) (w .before .before .terms .ensures) (w .before .sums-of .ensures) (w .weights-at .ensures))
+    ap (pasted (now (a .sums)) (a .y .sums)) (sums-are (a .y) (now (a .file)) (w .before .before .terms-of .ensures) (w .before .sums-of .ensures) (w .weights-at .ensures))
 
 pub put-sums-spec : {M : Type 1} → statement M
 put-sums-spec =
@@ -106,7 +106,7 @@ put-sums-spec =
     (tie.spec
     Inv-loop
     μ-loop
-    terms-requires
+    terms-of-requires
     sums-of-requires
     weights-at-requires
     loop-holds
