@@ -1,15 +1,14 @@
 -- A network that is read so far, and one layer more.
 -- Assumes nothing.
 use Prim.Native.Nat.{ℕ, zero, suc, _+_, _*_, _≤_, _<_}
-use mathlib.Core.Path.{_≡_, refl, sym, _∙_, ap, subst, subst⁻¹}
+use mathlib.Core.Path.{_≡_, refl, sym, _∙_, ap, subst⁻¹}
 use mathlib.Core.List.{List}
 use native.Mathlib.Omega.{arith}
 use borrow.Author.Count.{below-more}
-use lib.ListN.{length, length-set}
+use lib.ListN.{length}
 use lib.Seq.{getD-set-same, getD-set-other}
 use Rattle.records.specs.Shape.{bytesOf, GoodShape}
 use Rattle.records.specs.Layer.{sumsOf, recordLen}
-use Rattle.records.specs.declared.shape.Shape.{Shape}
 use Rattle.records.specs.declared.layer.Kind.{Kind}
 use Rattle.records.specs.declared.layer.Kind.the-variants.{Convolution, Fully, Addition}
 use Rattle.records.specs.declared.layer.Layer.{Layer}
@@ -103,8 +102,8 @@ module _ (s : List ℕ) (n n′ : Network) (made : ℕ) (l : Layer) (e : Extends
     place-end = omega (arith, t .place-end, e .area);
     sums-end = omega (arith, t .sums-end, e .store);
   } where
-      place-and-bytes : (m : ℕ) → m ≤ made → placeOf n′ m + bytesOf (tensorOf n′ m) ≡ placeOf n m + bytesOf (tensorOf n m)
-      place-and-bytes m h = rw (place-same m h, tensor-same m h)
+    place-and-bytes : (m : ℕ) → m ≤ made → placeOf n′ m + bytesOf (tensorOf n′ m) ≡ placeOf n m + bytesOf (tensorOf n m)
+    place-and-bytes m h = rw (place-same m h, tensor-same m h)
 
   module _ (at next : ℕ) (r : Sofar s n made at) (g : Grown s n made at l next) where
     layer-new : LayerTaken s n′ made l

@@ -11,7 +11,6 @@ use Rattle.records.specs.Layer.{sumsOf, biasesAt, recordLen}
 use Rattle.records.specs.Conv.{convAt, convOutput, ConvOk}
 use Rattle.records.specs.Full.{fullAt, fullOutput, FullOk}
 use Rattle.records.specs.Add.{addAt, AddOk}
-use Rattle.records.specs.declared.shape.Shape.{Shape}
 use Rattle.records.specs.declared.conv.Conv.{Conv}
 use Rattle.records.specs.declared.full.Full.{Full}
 use Rattle.records.specs.declared.add.Add.{Add}

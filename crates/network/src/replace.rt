@@ -2,7 +2,7 @@
 ghost use mathlib.Core.Path.{_≡_};
 ghost use Prim.Native.Nat.{_+_, _*_, _≤_};
 ghost use lib.ListN.{length};
-ghost use Rattle.records.specs.Layer.{sumsOf, termsOf, fixedOf, recordLen};
+ghost use Rattle.records.specs.Layer.{sumsOf, fixedOf, recordLen};
 ghost use Rattle.network.specs.Replace.{agree, agreeing, convRecordFault, fullRecordFault, addRecordFault, recordFault, replaceFault};
 use records::add::add_at;
 use records::add::add_fields;
@@ -65,13 +65,7 @@ fn add_record_fault(new: &[u8]) -> u8
     requires { ⌜ 22 ≤ length (now new) ⌝ }
     ensures { λ r. ⌜ r ≡ addRecordFault (now (new .entry)) ⌝ }
 {
-    let a = add_at(
-        new,
-        0,
-        u32_at(new, 6),
-        u32_at(new, 10),
-        u32_at(new, 14),
-    );
+    let a = add_at(new, 0, u32_at(new, 6), u32_at(new, 10), u32_at(new, 14));
     first_of(spare_fault(new[21]), add_fields(a))
 }
 
