@@ -1,11 +1,11 @@
 -- How large the numbers of a network are that a file holds.
 -- Assumes nothing.
 use Prim.Native.Nat.{ℕ, zero, suc, _+_, _*_, _≤_, _<_}
-use mathlib.Core.Path.{_≡_, ap}
+use mathlib.Core.Path.{ap}
 use mathlib.Core.List.{List}
 use native.Mathlib.Omega.{arith}
 use lib.ListN.{getD}
-use Rattle.records.specs.Shape.{bytesOf, GoodShape}
+use Rattle.records.specs.Shape.{bytesOf}
 use Rattle.records.specs.Conv.{convOutput}
 use Rattle.records.specs.Full.{fullOutput}
 use Rattle.records.specs.Layer.{sumsOf, termsOf}
@@ -18,7 +18,7 @@ use Rattle.records.specs.declared.layer.Kind.the-variants.{Convolution, Fully, 
 use Rattle.records.specs.declared.layer.Layer.{Layer}
 use Rattle.records.proofs.Shapes.{mul-most}
 use Rattle.network.specs.Network.{layerOf, tensorOf, zeroBy, zeroOf}
-use Rattle.network.specs.Taken.{ConvTaken, FullTaken, AddTaken, KindTaken, LayerTaken, Taken}
+use Rattle.network.specs.Taken.{ConvTaken, FullTaken, AddTaken, KindTaken, Taken}
 use Rattle.network.specs.declared.net.Network.{Network}
 
 -- a layer has at most 256 sums

@@ -18,7 +18,7 @@ use Rattle.records.proofs.Shapes.{size-in, good-shape}
 use Rattle.records.proofs.Answers.{Answered}
 use Rattle.network.specs.Network.{blankShape, blankLayer, emptyNetwork, tensorOf}
 use Rattle.network.specs.Head.{pictureAt, headFault}
-use Rattle.network.specs.Decode.{Next, CanStep, readLayer, stopped, started, startOf, pushed, stepRead, stepFrom, stepOf, runOf, endFault, decodedAs, finishOf, ranOf, decodeOf}
+use Rattle.network.specs.Decode.{CanStep, readLayer, stopped, started, startOf, pushed, stepRead, stepFrom, stepOf, runOf, endFault, decodedAs, finishOf, ranOf, decodeOf}
 use Rattle.network.specs.declared.net.Network.{Network}
 use Rattle.network.specs.declared.file.Progress.{Progress}
 use Rattle.network.specs.declared.file.Decoded.{Decoded}

@@ -1,7 +1,7 @@
 -- What is known of a file that is taken: all that `Taken` says of its network.
 -- Assumes nothing.
 use Prim.Native.Nat.{ℕ, zero, suc, _-_, _≤_}
-use mathlib.Core.Path.{_≡_, refl, sym, _∙_, ap, subst}
+use mathlib.Core.Path.{_≡_, refl, sym, _∙_, ap}
 use mathlib.Core.Bool.{Bool, true, false, cond}
 use mathlib.Core.List.{List}
 use native.Mathlib.Omega.{arith}
@@ -10,7 +10,6 @@ use lib.Dec.{leb, eqb}
 use lib.ListN.{length}
 use Rattle.records.specs.Faults.{first}
 use Rattle.records.proofs.Tests.{first-both, unless-none}
-use Rattle.network.specs.Network.{layerOf}
 use Rattle.network.specs.Decode.{stopped, startOf, endFault, decodedAs, finishOf, ranOf, decodeOf}
 use Rattle.network.specs.Taken.{Taken}
 use Rattle.network.specs.declared.file.Progress.{Progress}

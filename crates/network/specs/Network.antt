@@ -1,7 +1,6 @@
 -- A network: tensor 0 is the picture; layer m, counted from 0, reads tensor m and makes tensor m + 1.
 -- Assumes nothing.
-use Prim.Native.Nat.{ℕ, zero, suc, _+_}
-use mathlib.Core.List.{List}
+use Prim.Native.Nat.{ℕ, zero, suc}
 use lib.ListN.{getD, replicate}
 use Rattle.records.specs.declared.shape.Shape.{Shape}
 use Rattle.records.specs.declared.layer.Kind.{Kind}

@@ -11,7 +11,6 @@ use Rattle.records.specs.Layer.{sumsOf, biasesAt, recordLen}
 use Rattle.records.specs.Conv.{convAt, convOutput, ConvOk}
 use Rattle.records.specs.Full.{fullAt, fullOutput, FullOk}
 use Rattle.records.specs.Add.{addAt, AddOk}
-use Rattle.records.specs.declared.shape.Shape.{Shape}
 use Rattle.records.specs.declared.conv.Conv.{Conv}
 use Rattle.records.specs.declared.full.Full.{Full}
 use Rattle.records.specs.declared.add.Add.{Add}
@@ -65,6 +64,7 @@ pub record Taken (s : List ℕ) (n : Network) : Type 0 where
   pub count-few : n .count ≤ 16
   pub sixteen : length (n .layers) ≡ 16
   pub zero-is : n .zero ≡ byteAt s 7
+  -- within the ranges of the head
   pub picture-rows : n .picture .rows ≤ 256
   pub picture-columns : n .picture .columns ≤ 256
   pub picture-channels : n .picture .channels ≤ 64

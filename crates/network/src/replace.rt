@@ -2,7 +2,7 @@
 ghost use mathlib.Core.Path.{_≡_};
 ghost use Prim.Native.Nat.{_+_, _*_, _≤_};
 ghost use lib.ListN.{length};
-ghost use Rattle.records.specs.Layer.{sumsOf, termsOf, fixedOf, recordLen};
+ghost use Rattle.records.specs.Layer.{sumsOf, fixedOf, recordLen};
 ghost use Rattle.network.specs.Replace.{agree, agreeing, convRecordFault, fullRecordFault, addRecordFault, recordFault, replaceFault};
 use records::add::add_at;
 use records::add::add_fields;

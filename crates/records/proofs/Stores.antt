@@ -9,6 +9,8 @@ use lib.ListN.{length}
 use Rattle.records.specs.Bytes.{i32At}
 use Rattle.records.specs.Faults.{cutFault}
 use Rattle.records.specs.Stored.{biasFaults, storedLen, storedFault}
+use Rattle.records.specs.Layer.{sumsOf, termsOf, weightsAt, recordLen}
+use Rattle.records.specs.declared.layer.Layer.{Layer}
 use Rattle.records.proofs.Tests.{first-both, cut-there}
 use Rattle.records.proofs.Biases.{biases-in}
 
@@ -26,3 +28,10 @@ unfolding storedFault
 stored-in s at n w a p =
     let q = first-both (cutFault s at (storedLen n w)) (biasFaults s at n) p in
     record { there = cut-there s at (storedLen n w) a (q .0); biases = biases-in s at n (q .1) }
+
+-- a record ends with its weights
+pub record-end :
+    (y : Layer) →
+    y .start + recordLen y ≡ weightsAt y + sumsOf (y .kind) * termsOf (y .kind) (y .input)
+unfolding storedLen
+record-end y = omega arith

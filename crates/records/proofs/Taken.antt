@@ -9,7 +9,7 @@ use lib.ListN.{length}
 use Rattle.records.specs.Bytes.{i32At}
 use Rattle.records.specs.Shape.{bytesOf, GoodShape}
 use Rattle.records.specs.Stored.{storedLen}
-use Rattle.records.specs.Layer.{sumsOf, termsOf, biasesAt, recordLen}
+use Rattle.records.specs.Layer.{sumsOf, biasesAt, recordLen}
 use Rattle.records.specs.Conv.{ConvOk, convAt, convOutput, convTerms, convLayer, readConvAs, readConv}
 use Rattle.records.specs.Full.{FullOk, fullAt, fullOutput, fullLayer, readFull}
 use Rattle.records.specs.Add.{AddOk, addAt, addLayer, readAdd}

@@ -1,7 +1,6 @@
 -- `network::file::step` meets its contract.
 -- Assumes nothing.
-use mathlib.Core.Path.{sym, _∙_, ap, subst}
-use native.Mathlib.Omega.{arith}
+use mathlib.Core.Path.{sym, _∙_}
 use Rattle.network.proofs.Marked.{found-grown}
 use Rattle.network.proofs.Runs.{step-stopped, step-next}
 use borrow.Author.Needs.{needs}
@@ -24,14 +23,21 @@ enum-known-l : tie.Need-enum-known-l
 enum-known-l c = search needs
 
 push-requires : tie.Need-push-requires
-push-requires c κs = let r = c .before .before .before .before .before .before .before .before .pre (c .before .before .before .before .before .if1 .left) in
-    let t = found-grown _ _ _ _ _ _ (r .at-in) (r .last-good) (sym (c .before .l .given .1) ∙ c .before .before .before .read-layer .ensures) in search needs
+push-requires c κs =
+    let w = c .before .before .before in
+    let r = w .before .before .before .before .before .pre (w .before .before .if1 .left) in
+    let t = found-grown _ _ _ _ _ _ (r .at-in) (r .last-good) (sym (c .before .l .given .1) ∙ w .read-layer .ensures) in
+    search needs
 
 returns-2 : tie.Need-returns-2
-returns-2 c = c .stopped-with .ensures ∙ step-next _ _ _ (c .before .before .before .before .before .before .if1 .left) (sym (c .before .before .n .given .1) ∙ c .before .before .before .before .read-layer .ensures)
+returns-2 c =
+    let w = c .before .before .before .before in
+    c .stopped-with .ensures ∙ step-next _ _ _ (w .before .before .if1 .left) (sym (c .before .before .n .given .1) ∙ w .read-layer .ensures)
 
 returns-3 : tie.Need-returns-3
-returns-3 c = c .push .ensures ∙ step-next _ _ _ (c .before .before .before .before .before .before .if1 .left) (sym (c .before .before .l .given .1) ∙ c .before .before .before .before .read-layer .ensures)
+returns-3 c =
+    let w = c .before .before .before .before in
+    c .push .ensures ∙ step-next _ _ _ (w .before .before .if1 .left) (sym (c .before .before .l .given .1) ∙ w .read-layer .ensures)
 
 pub step-spec : {M : Type 1} → statement M
 step-spec =

@@ -42,13 +42,13 @@ enum-known-kind-3 : tie.Need-enum-known-kind-3
 enum-known-kind-3 c = search needs
 
 returns-2 : tie.Need-returns-2
-returns-2 c = zero-at (c .before .before .before .before .before .args .t1) (c .before .before .before .before .before .args .t) _ (c .before .before .before .before .if1 .left) (c .before .kind .given .1)
+returns-2 c = let w = c .before .before .before .before in zero-at (w .before .args .t1) (w .before .args .t) _ (w .if1 .left) (c .before .kind .given .1)
 
 returns-3 : tie.Need-returns-3
-returns-3 c = zero-at (c .before .before .before .before .before .args .t1) (c .before .before .before .before .before .args .t) _ (c .before .before .before .before .if1 .left) (c .before .kind2 .given .1)
+returns-3 c = let w = c .before .before .before .before in zero-at (w .before .args .t1) (w .before .args .t) _ (w .if1 .left) (c .before .kind2 .given .1)
 
 returns-4 : tie.Need-returns-4
-returns-4 c = zero-at (c .before .before .before .before .before .args .t1) (c .before .before .before .before .before .args .t) _ (c .before .before .before .before .if1 .left) (c .before .kind3 .given .1)
+returns-4 c = let w = c .before .before .before .before in zero-at (w .before .args .t1) (w .before .args .t) _ (w .if1 .left) (c .before .kind3 .given .1)
 
 pub zero-point-spec : {M : Type 1} → statement M
 zero-point-spec =

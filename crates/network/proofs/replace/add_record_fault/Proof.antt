@@ -31,7 +31,15 @@ first-of-requires c κs = search needs
 
 returns : tie.Need-returns
 unfolding addRecordFault
-returns c = simp (c .before .before .spare-fault .ensures, c .before .add-fields .ensures, c .before .before .before .before .add-at .ensures, c .before .before .before .before .before .before .before .u32-at .ensures, c .before .before .before .before .before .before .u32-at2 .ensures, c .before .before .before .before .before .u32-at3 .ensures) at (c .first-of .ensures)
+returns c =
+    simp (
+      c .before .before .spare-fault .ensures,
+      c .before .add-fields .ensures,
+      c .before .before .before .before .add-at .ensures,
+      c .before .before .before .before .before .before .before .u32-at .ensures,
+      c .before .before .before .before .before .before .u32-at2 .ensures,
+      c .before .before .before .before .before .u32-at3 .ensures,
+    ) at (c .first-of .ensures)
 
 pub add-record-fault-spec : {M : Type 1} → statement M
 add-record-fault-spec =

@@ -22,7 +22,13 @@ first-of-requires c κs = search needs
 
 returns : tie.Need-returns
 unfolding convRecordFault
-returns c = simp (c .before .before .conv-fields .ensures, c .before .bias-faults .ensures, c .before .before .before .conv-at .ensures, c .before .before .before .before .u32-at .ensures) at (c .first-of .ensures)
+returns c =
+    simp (
+      c .before .before .conv-fields .ensures,
+      c .before .bias-faults .ensures,
+      c .before .before .before .conv-at .ensures,
+      c .before .before .before .before .u32-at .ensures,
+    ) at (c .first-of .ensures)
 
 pub conv-record-fault-spec : {M : Type 1} → statement M
 conv-record-fault-spec =

@@ -34,7 +34,16 @@ first-of-requires-2 c κs = search needs
 
 returns : tie.Need-returns
 unfolding fullRecordFault
-returns c = simp (c .before .spare-fault .ensures, c .before .before .before .first-of .ensures, c .before .before .before .before .before .full-fields .ensures, c .before .before .before .before .bias-faults .ensures, c .before .before .before .before .before .before .full-at .ensures, c .before .before .before .before .before .before .before .before .u16-at .ensures, c .before .before .before .before .before .before .before .u32-at .ensures) at (c .first-of2 .ensures)
+returns c =
+    simp (
+      c .before .spare-fault .ensures,
+      c .before .before .before .first-of .ensures,
+      c .before .before .before .before .before .full-fields .ensures,
+      c .before .before .before .before .bias-faults .ensures,
+      c .before .before .before .before .before .before .full-at .ensures,
+      c .before .before .before .before .before .before .before .before .u16-at .ensures,
+      c .before .before .before .before .before .before .before .u32-at .ensures,
+    ) at (c .first-of2 .ensures)
 
 pub full-record-fault-spec : {M : Type 1} → statement M
 full-record-fault-spec =

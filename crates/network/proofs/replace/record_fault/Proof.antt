@@ -2,7 +2,7 @@
 -- Assumes nothing.
 use borrow.Author.Needs.{needs}
 use Prim.Native.Nat.{_+_, _*_, _≤_}
-use mathlib.Core.Path.{sym, _∙_, ap, subst}
+use mathlib.Core.Path.{sym, _∙_, ap, subst, _≡_}
 use denote.Ref.{now}
 use lib.ListN.{length}
 use Rattle.records.specs.Layer.{sumsOf, fixedOf}
@@ -11,6 +11,14 @@ use Rattle.network.specs.Replace.{recordFault}
 use Rattle.network.proofs.replace.record_fault.Statement.{statement}
 use Rattle.network.proofs.replace.record_fault.Tie as tie
 
+-- the kind is k: there is room for its biases, and its fault is that of the record
+module _ (c : tie.Start) (k : Kind) (e : c .args .kind ≡ k) where
+  room : fixedOf k + 4 * sumsOf k ≤ length (now (c .args .new))
+  room = subst (λ (x : Kind). fixedOf x + 4 * sumsOf x ≤ length (now (c .args .new))) e (c .pre)
+
+  same : recordFault k (now (c .args .new)) ≡ recordFault (c .args .kind) (now (c .args .new))
+  same = ap (λ (x : Kind). recordFault x (now (c .args .new))) (sym e)
+
 enum-known-kind : tie.Need-enum-known-kind
 enum-known-kind c = search needs
 
@@ -18,7 +26,7 @@ cast-conv-record-fault : tie.Need-cast-conv-record-fault
 cast-conv-record-fault c = search needs
 
 conv-record-fault-requires : tie.Need-conv-record-fault-requires
-conv-record-fault-requires c κs = subst (λ (k : Kind). fixedOf k + 4 * sumsOf k ≤ length (now (c .before .before .before .before .before .args .new))) (c .before .before .kind .given .1) (c .before .before .before .before .before .pre)
+conv-record-fault-requires c κs = room (c .before .before .before .before .before) _ (c .before .before .kind .given .1)
 
 enum-known-kind-2 : tie.Need-enum-known-kind-2
 enum-known-kind-2 c = search needs
@@ -27,22 +35,22 @@ cast-full-record-fault : tie.Need-cast-full-record-fault
 cast-full-record-fault c = search needs
 
 full-record-fault-requires : tie.Need-full-record-fault-requires
-full-record-fault-requires c κs = subst (λ (k : Kind). fixedOf k + 4 * sumsOf k ≤ length (now (c .before .before .before .before .before .args .new))) (c .before .before .kind2 .given .1) (c .before .before .before .before .before .pre)
+full-record-fault-requires c κs = room (c .before .before .before .before .before) _ (c .before .before .kind2 .given .1)
 
 enum-told : tie.Need-enum-told
 enum-told c = search needs
 
 add-record-fault-requires : tie.Need-add-record-fault-requires
-add-record-fault-requires c κs = subst (λ (k : Kind). fixedOf k + 4 * sumsOf k ≤ length (now (c .before .before .before .args .new))) (c .enum-told .given .1) (c .before .before .before .pre)
+add-record-fault-requires c κs = room (c .before .before .before) _ (c .enum-told .given .1)
 
 returns : tie.Need-returns
-returns c = c .conv-record-fault .ensures ∙ ap (λ (k : Kind). recordFault k (now (c .before .before .before .before .before .before .args .new))) (sym (c .before .before .before .kind .given .1))
+returns c = c .conv-record-fault .ensures ∙ same (c .before .before .before .before .before .before) _ (c .before .before .before .kind .given .1)
 
 returns-2 : tie.Need-returns-2
-returns-2 c = c .full-record-fault .ensures ∙ ap (λ (k : Kind). recordFault k (now (c .before .before .before .before .before .before .args .new))) (sym (c .before .before .before .kind2 .given .1))
+returns-2 c = c .full-record-fault .ensures ∙ same (c .before .before .before .before .before .before) _ (c .before .before .before .kind2 .given .1)
 
 returns-3 : tie.Need-returns-3
-returns-3 c = c .add-record-fault .ensures ∙ ap (λ (k : Kind). recordFault k (now (c .before .before .before .before .args .new))) (sym (c .before .enum-told .given .1))
+returns-3 c = c .add-record-fault .ensures ∙ same (c .before .before .before .before) _ (c .before .enum-told .given .1)
 
 pub record-fault-spec : {M : Type 1} → statement M
 record-fault-spec =

@@ -20,7 +20,7 @@ sub-if1 c = search needs
 returns : tie.Need-returns
 returns c =
     tested (now (c .before .before .before .args .file)) (c .before .before .before .args .y) (now (c .before .before .before .args .new)) false _ _
-    (ne-eqb (length (now (c .before .before .before .args .new))) (recordLen (c .before .before .before .args .y)) (λ e. c .if1 .taken (omega (arith, e)))) refl refl
+    (ne-eqb (length (now (c .before .before .before .args .new))) (recordLen (c .before .before .before .args .y)) (λ e. omega arith)) refl refl
 
 agreeing-of-requires : tie.Need-agreeing-of-requires
 agreeing-of-requires c κs = search needs

@@ -14,7 +14,9 @@ size-fault-requires c κs = search needs
 
 returns : tie.Need-returns
 unfolding addShape
-returns c = simp (le-leb _ _ (c .before .before .before .if1 .taken), ← (c .before .before .same-shape .ensures), c .before .if2 .taken) (c .size-fault .ensures)
+returns c =
+    simp (le-leb _ _ (c .before .before .before .if1 .taken), ← (c .before .before .same-shape .ensures), c .before .if2 .taken)
+    (c .size-fault .ensures)
 
 returns-2 : tie.Need-returns-2
 unfolding addShape

@@ -58,7 +58,19 @@ answer-of-requires c κs = search needs
 
 returns : tie.Need-returns
 unfolding readAdd
-returns c = simp (c .before .first-of2 .ensures, c .before .before .before .before .spare-fault .ensures, c .before .before .first-of .ensures, c .before .before .before .add-fields .ensures, c .before .before .before .before .before .before .add-shape .ensures, c .before .before .before .before .before .before .before .before .add-at .ensures, c .before .before .before .before .before .before .before .before .before .before .before .u32-at .ensures, c .before .before .before .before .before .before .before .before .before .before .u32-at2 .ensures, c .before .before .before .before .before .before .before .before .before .u32-at3 .ensures) at (c .answer-of .ensures)
+returns c =
+    let w = c .before .before .before .before .before .before .before .before in
+    simp (
+      c .before .first-of2 .ensures,
+      c .before .before .before .before .spare-fault .ensures,
+      c .before .before .first-of .ensures,
+      c .before .before .before .add-fields .ensures,
+      c .before .before .before .before .before .before .add-shape .ensures,
+      w .add-at .ensures,
+      w .before .before .before .u32-at .ensures,
+      w .before .before .u32-at2 .ensures,
+      w .before .u32-at3 .ensures,
+    ) at (c .answer-of .ensures)
 
 pub read-add-spec : {M : Type 1} → statement M
 read-add-spec =

@@ -30,7 +30,10 @@ div-t8 : tie.Need-div-t8
 div-t8 c = search needs
 
 add-t9 : tie.Need-add-t9
-add-t9 c = let i = c .before .before .before .before .args .input in let k = c .before .before .before .before .args .c in omega (arith, div-le-self (i .rows + 2 * k .padding - k .height) (k .stride))
+add-t9 c =
+    let i = c .before .before .before .before .args .input in
+    let k = c .before .before .before .before .args .c in
+    omega (arith, div-le-self (i .rows + 2 * k .padding - k .height) (k .stride))
 
 add-t10 : tie.Need-add-t10
 add-t10 c = search needs
@@ -45,7 +48,10 @@ div-t13 : tie.Need-div-t13
 div-t13 c = search needs
 
 add-t14 : tie.Need-add-t14
-add-t14 c = let i = c .before .before .before .before .before .before .args .input in let k = c .before .before .before .before .before .before .args .c in omega (arith, div-le-self (i .columns + 2 * k .padding - k .width) (k .stride))
+add-t14 c =
+    let i = c .before .before .before .before .before .before .args .input in
+    let k = c .before .before .before .before .before .before .args .c in
+    omega (arith, div-le-self (i .columns + 2 * k .padding - k .width) (k .stride))
 
 cast-t15 : tie.Need-cast-t15
 cast-t15 c = search needs

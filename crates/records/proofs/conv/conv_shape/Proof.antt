@@ -2,7 +2,7 @@
 -- Assumes nothing.
 use native.Mathlib.Omega.{arith}
 use borrow.Author.Tests.{le-leb, lt-leb}
-use Rattle.records.specs.Conv.{convShape, convOutput}
+use Rattle.records.specs.Conv.{convShape}
 use Rattle.records.proofs.Convs.{conv-small}
 use borrow.Author.Needs.{needs}
 use Rattle.records.proofs.conv.conv_shape.Statement.{statement}
@@ -30,11 +30,15 @@ conv-output-requires : tie.Need-conv-output-requires
 conv-output-requires c κs = search needs
 
 size-fault-requires : tie.Need-size-fault-requires
-size-fault-requires c κs = (rw (c .conv-output .ensures) (conv-small _ _ (c .before .before .before .before .before .before .before .before .pre .0) (c .before .before .before .before .before .before .before .before .pre .1 .0)), omega arith)
+size-fault-requires c κs =
+    let s = c .before .before .before .before .before .before .before .before in
+    (rw (c .conv-output .ensures) (conv-small _ _ (s .pre .0) (s .pre .1 .0)), omega arith)
 
 returns : tie.Need-returns
 unfolding convShape
-returns c = simp (le-leb _ _ (c .before .before .before .before .before .if1 .taken), le-leb _ _ (c .before .before .if2 .taken), ← (c .before .conv-output .ensures)) (c .size-fault .ensures)
+returns c =
+    simp (le-leb _ _ (c .before .before .before .before .before .if1 .taken), le-leb _ _ (c .before .before .if2 .taken), ← (c .before .conv-output .ensures))
+    (c .size-fault .ensures)
 
 returns-2 : tie.Need-returns-2
 unfolding convShape

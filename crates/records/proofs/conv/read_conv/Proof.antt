@@ -1,8 +1,8 @@
 -- `records::conv::read_conv` meets its contract.
 -- Assumes nothing.
-use mathlib.Core.Path.{sym, _∙_, ap}
+use mathlib.Core.Path.{sym, _∙_, ap, _≡_}
 use denote.Ref.{now}
-use Rattle.records.specs.Conv.{convFields, convWith}
+use Rattle.records.specs.Conv.{convWith, convAt, convFields}
 use Rattle.records.specs.Conv.{readConvAs}
 use Rattle.records.proofs.Answers.{stop}
 use borrow.Author.Needs.{needs}
@@ -21,15 +21,20 @@ conv-at-requires c κs = search needs
 conv-fields-requires : tie.Need-conv-fields-requires
 conv-fields-requires c κs = search needs
 
+read :
+    (c : tie.After-conv-at) →
+    c .conv-at .result ≡ convAt (now (c .before .before .before .args .s)) (c .before .before .before .args .at)
+read c = c .conv-at .ensures ∙ ap (convWith (now (c .before .before .before .args .s)) (c .before .before .before .args .at)) (c .before .u32-at .ensures)
+
 returns : tie.Need-returns
 unfolding readConvAs
-returns c = stop _ _ _ _ _ (c .before .conv-fields .ensures ∙ ap convFields (c .before .before .conv-at .ensures ∙ ap (convWith (now (c .before .before .before .before .before .args .s)) (c .before .before .before .before .before .args .at)) (c .before .before .before .u32-at .ensures))) (c .if1 .taken)
+returns c = stop _ _ _ _ _ (c .before .conv-fields .ensures ∙ ap convFields (read (c .before .before))) (c .if1 .taken)
 
 fit-conv-requires : tie.Need-fit-conv-requires
 fit-conv-requires c κs = (search needs, (search needs, (search needs, sym (c .before .conv-fields .ensures) ∙ c .if1 .left)))
 
 returns-2 : tie.Need-returns-2
-returns-2 c = simp (c .before .before .before .conv-at .ensures, c .before .before .before .before .u32-at .ensures) at (c .fit-conv .ensures)
+returns-2 c = simp (read (c .before .before .before)) at (c .fit-conv .ensures)
 
 pub read-conv-spec : {M : Type 1} → statement M
 read-conv-spec =

@@ -1,5 +1,6 @@
 -- `records::full::read_full` meets its contract: each part is what its call gives.
 -- Assumes nothing.
+use Prim.Native.Nat.{_≤_}
 use native.Mathlib.Omega.{arith}
 use Rattle.records.specs.Full.{readFull}
 use borrow.Author.Needs.{needs}
@@ -36,8 +37,11 @@ size-fault-requires c κs = search needs
 add-stored-fault : tie.Need-add-stored-fault
 add-stored-fault c = search needs
 
+few : (c : tie.After-bytes-of) → (c .before .before .before .full-at .result .outputs ≤ 65535) × (c .bytes-of .result ≤ 1000000)
+few c = (omega (arith, c .before .struct-known .given .0), rw (c .bytes-of .ensures) (omega (arith, c .before .before .before .before .before .before .before .pre .1 .1)))
+
 stored-fault-requires : tie.Need-stored-fault-requires
-stored-fault-requires c κs = (search needs, (omega (arith, c .before .before .struct-known .given .0), rw (c .before .bytes-of .ensures) (omega (arith, c .before .before .before .before .before .before .before .before .pre .1 .1))))
+stored-fault-requires c κs = (search needs, few (c .before))
 
 first-of-requires : tie.Need-first-of-requires
 first-of-requires c κs = search needs
@@ -64,17 +68,33 @@ add-next : tie.Need-add-next
 add-next c = search needs
 
 stored-len-requires : tie.Need-stored-len-requires
-stored-len-requires c κs = (omega (arith, c .before .before .before .before .before .before .before .before .before .struct-known .given .0), rw (c .before .before .before .before .before .before .before .before .bytes-of .ensures) (omega (arith, c .before .before .before .before .before .before .before .before .before .before .before .before .before .before .before .pre .1 .1)))
+stored-len-requires c κs = few (c .before .before .before .before .before .before .before .before)
 
 add-next-2 : tie.Need-add-next-2
-add-next-2 c = omega (arith, c .stored-len .ensures .1, c .before .before .before .before .before .before .before .before .before .before .before .before .before .before .before .before .pre .0, c .before .before .before .before .before .before .before .before .before .before .before .before .before .before .before .before .good)
+add-next-2 c = let s = c .before .before .before .before .before .before .before .before .before .before .before .before .before .before .before .before in omega (arith, c .stored-len .ensures .1, s .pre .0, s .good)
 
 answer-of-requires : tie.Need-answer-of-requires
 answer-of-requires c κs = search needs
 
 returns : tie.Need-returns
 unfolding readFull
-returns c = simp (c .before .before .first-of3 .ensures, c .before .before .before .first-of2 .ensures, c .before .before .before .before .before .before .before .first-of .ensures, c .before .before .before .before .before .spare-fault .ensures, c .before .before .before .before .full-fields .ensures, c .before .before .before .before .before .before .before .before .before .size-fault .ensures, c .before .before .before .before .before .before .before .before .stored-fault .ensures, c .before .stored-len .ensures .0, c .before .before .before .before .before .before .before .before .before .before .bytes-of .ensures, c .before .before .before .before .before .before .before .before .before .before .before .before .full-output .ensures .0, c .before .before .before .before .before .before .before .before .before .before .before .before .before .full-at .ensures, c .before .before .before .before .before .before .before .before .before .before .before .before .before .before .before .u16-at .ensures, c .before .before .before .before .before .before .before .before .before .before .before .before .before .before .u32-at .ensures) at (c .answer-of .ensures)
+returns c =
+    let w = c .before .before .before .before .before .before .before .before .before .before in
+    simp (
+      c .before .before .first-of3 .ensures,
+      c .before .before .before .first-of2 .ensures,
+      c .before .before .before .before .before .before .before .first-of .ensures,
+      c .before .before .before .before .before .spare-fault .ensures,
+      c .before .before .before .before .full-fields .ensures,
+      c .before .before .before .before .before .before .before .before .before .size-fault .ensures,
+      c .before .before .before .before .before .before .before .before .stored-fault .ensures,
+      c .before .stored-len .ensures .0,
+      w .bytes-of .ensures,
+      w .before .before .full-output .ensures .0,
+      w .before .before .before .full-at .ensures,
+      w .before .before .before .before .before .u16-at .ensures,
+      w .before .before .before .before .u32-at .ensures,
+    ) at (c .answer-of .ensures)
 
 pub read-full-spec : {M : Type 1} → statement M
 read-full-spec =

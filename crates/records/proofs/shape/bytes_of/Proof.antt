@@ -1,5 +1,6 @@
 -- `records::shape::bytes_of` meets its contract: the product of small numbers fits.
 -- Assumes nothing.
+use Prim.Native.Nat.{_*_, _≤_}
 use borrow.Author.Needs.{needs}
 use native.Mathlib.Omega.{arith}
 use Rattle.records.specs.Shape.{bytesOf}
@@ -7,12 +8,15 @@ use Rattle.records.proofs.Shapes.{mul-most}
 use Rattle.records.proofs.shape.bytes_of.Statement.{statement}
 use Rattle.records.proofs.shape.bytes_of.Tie as tie
 
+face : (c : tie.Start) → c .args .s .rows * c .args .s .columns ≤ 65536 * 65536
+face c = mul-most (c .args .s .rows) (c .args .s .columns) 65536 65536 (omega arith) (omega arith)
+
 mul-result : tie.Need-mul-result
-mul-result c = let a = c .before .args .s in omega (arith, mul-most (a .rows) (a .columns) 65536 65536 (omega arith) (omega arith))
+mul-result c = omega (arith, face (c .before))
 
 mul-result-2 : tie.Need-mul-result-2
-mul-result-2 c = let a = c .before .before .args .s in
-    omega (arith, mul-most _ (a .channels) 4294967296 65536 (mul-most (a .rows) (a .columns) 65536 65536 (omega arith) (omega arith)) (omega arith))
+mul-result-2 c =
+    omega (arith, mul-most _ (c .before .before .args .s .channels) (65536 * 65536) 65536 (face (c .before .before)) (omega arith))
 
 returns : tie.Need-returns
 unfolding bytesOf

@@ -3,18 +3,19 @@
 -- Assumes nothing.
 use borrow.Author.Needs.{needs}
 use Prim.Native.Nat.{_≤_, _+_, _*_}
-use mathlib.Core.Path.{_≡_, refl, sym, _∙_}
+use mathlib.Core.Path.{_≡_, refl}
 use native.Mathlib.Omega.{arith}
 use lib.ListN.{length}
 use Rattle.records.specs.Faults.{first}
 use Rattle.records.specs.Stored.{biasFaults}
 use Rattle.records.proofs.Biases.{bias-turn, bias-none}
-use Rattle.records.proofs.Tests.{first-zero, first-none}
+use Rattle.records.proofs.Tests.{first-none}
 use Rattle.records.proofs.stored.bias_faults.Statement.{statement}
 use Rattle.records.proofs.stored.bias_faults.Tie as tie
 
 abbrev Inv-loop : tie.InvT-loop
-Inv-loop s from count at₀ left₀ fault₀ at left fault = (first fault (biasFaults s at left) ≡ biasFaults s from count) × (at + 4 * left ≤ length s)
+Inv-loop s from count at₀ left₀ fault₀ at left fault =
+    (first fault (biasFaults s at left) ≡ biasFaults s from count) × (at + 4 * left ≤ length s)
 
 abbrev μ-loop : tie.MeasureT-loop
 μ-loop s from count at₀ left₀ fault₀ at left fault = left
@@ -41,7 +42,10 @@ loop-less : tie.Need-loop-less Inv-loop μ-loop
 loop-less c = omega arith
 
 loop-again : tie.Need-loop-again Inv-loop μ-loop
-loop-again c = (bias-turn _ _ _ _ _ _ _ _ (omega arith) (c .before .before .u32-at .ensures) (c .before .bias-fault .ensures) (c .first-of .ensures) (c .before .before .before .before .loop .inv .0), omega arith)
+loop-again c = (
+  bias-turn _ _ _ _ _ _ _ _ (omega arith) (c .before .before .u32-at .ensures) (c .before .bias-fault .ensures) (c .first-of .ensures) (c .before .before .before .before .loop .inv .0),
+  omega arith,
+)
 
 returns : tie.Need-returns Inv-loop μ-loop
 returns c = bias-none _ _ _ _ _ (omega arith) (c .before .loop .inv .0)
