@@ -4,3 +4,5 @@ pub mod Growth
 pub mod Marked
 pub mod Runs
 pub mod Taken
+pub mod Rewritten
+pub mod Kindred
