@@ -1,6 +1,6 @@
 -- Two records of one kind that agree in their first bytes: what they have in common, and test 9 by its parts.
 -- Assumes nothing.
-use Prim.Native.Nat.{ℕ, zero, suc, _+_, _*_, _^_, _≤_, _<_, min}
+use Prim.Native.Nat.{ℕ, zero, suc, _+_, _-_, _*_, _^_, _≤_, _<_, min}
 use mathlib.Core.Path.{_≡_, refl, sym, _∙_, ap, subst}
 use mathlib.Core.Bool.{Bool, true, false, _&&_}
 use mathlib.Core.List.{List}
@@ -12,6 +12,7 @@ use lib.IntN.{natAbs}
 use lib.ListN.{length}
 use Rattle.records.specs.Faults.{first, spareFault}
 use Rattle.records.specs.Bytes.{byteAt, u16At, u32At, i32At}
+use Rattle.records.specs.Mark.{isMark, markAt}
 use Rattle.records.specs.Shape.{bytesOf, sizeFault}
 use Rattle.records.specs.Stored.{storedLen, biasFaults}
 use Rattle.records.specs.Layer.{sumsOf, termsOf, fixedOf, biasesAt, weightsAt, recordLen}
@@ -23,6 +24,8 @@ use Rattle.records.specs.declared.conv.Conv.{Conv}
 use Rattle.records.specs.declared.layer.Kind.{Kind}
 use Rattle.records.specs.declared.layer.Kind.the-variants.{Convolution, Fully, Addition}
 use Rattle.records.specs.declared.layer.Layer.{Layer}
+use Rattle.records.specs.declared.mark.Mark.{Mark}
+use Rattle.records.specs.declared.mark.Mark.the-variants.{CV, FU, AD}
 use Rattle.records.proofs.Tests.{first-both, first-assoc, unless-none}
 use Rattle.records.proofs.Biases.{biases-in}
 use Rattle.records.proofs.Convs.{conv-ok}
@@ -43,6 +46,12 @@ kindAt (Addition a) s at = Addition (addAt s at)
 -- those that the record r holds
 abbrev pub kindFrom : Kind → List ℕ → Kind
 kindFrom k r = kindAt k r 0
+
+-- the mark of its record
+abbrev pub markOf : Kind → Mark
+markOf (Convolution c) = CV
+markOf (Fully f) = FU
+markOf (Addition a) = AD
 
 -- a spare or a field of the record at a place out of range
 abbrev pub ownFault : Kind → List ℕ → ℕ → ℕ
@@ -68,6 +77,11 @@ module _ (t : List ℕ) (at : ℕ) (u : List ℕ) (q n : ℕ) (e : Same t at u q
   -- byte i, at the places a and b
   same-byte : (i a b : ℕ) → i < n → a ≡ at + i → b ≡ q + i → byteAt t a ≡ byteAt u b
   same-byte i a b h x y = ap (byteAt t) x ∙ e i h ∙ ap (byteAt u) (sym y)
+
+  -- the same mark, where as many bytes are left
+  pub same-mark : 2 ≤ n → length t - at ≡ length u - q → markAt t at ≡ markAt u q
+  unfolding markAt isMark
+  same-mark h l = cc (same-byte 0 at q (omega arith) (omega arith) (omega arith), e 1 (omega arith))
 
   same-u16 : (i : ℕ) → i + 2 ≤ n → u16At t (at + i) ≡ u16At u (q + i)
   same-u16 i h = cc (e i (omega arith), same-byte (i + 1) (at + i + 1) (q + i + 1) (omega arith) (omega arith) (omega arith))
@@ -130,6 +144,7 @@ pub record Kindred (k κ : Kind) : Type 0 where
   pub shape : (n : Network) (m : ℕ) → shapeFault κ n m ≡ shapeFault k n m
   pub again : (s : List ℕ) (at : ℕ) → kindAt κ s at ≡ kindAt k s at
   pub own : (s : List ℕ) (at : ℕ) → ownFault κ s at ≡ ownFault k s at
+  pub mark : markOf κ ≡ markOf k
 
 pub framed-kindred : (u : List ℕ) (q : ℕ) (k : Kind) → Framed k u q → Kindred k (kindAt k u q)
 unfolding convOutput convShape fullOutput
@@ -141,6 +156,7 @@ framed-kindred u q (Convolution c) f = record {
   shape = λ n m. cc;
   again = λ s at. refl;
   own = λ s at. refl;
+  mark = refl;
 }
 framed-kindred u q (Fully f) e = record {
   sums = e;
@@ -150,6 +166,7 @@ framed-kindred u q (Fully f) e = record {
   shape = λ n m. cc;
   again = λ s at. refl;
   own = λ s at. refl;
+  mark = refl;
 }
 framed-kindred u q (Addition a) e = record {
   sums = refl;
@@ -159,6 +176,7 @@ framed-kindred u q (Addition a) e = record {
   shape = λ n m. cc;
   again = λ s at. refl;
   own = λ s at. refl;
+  mark = refl;
 }
 
 -- the first bytes of the record agree with those that the kind was read from
@@ -199,6 +217,13 @@ pub record Fit (s : List ℕ) (at : ℕ) (u : List ℕ) (q : ℕ) (k : Kind) : T
   pub agreed : Same s at u q (agreeing k)
   pub own : ownFault k u q ≡ 0
   pub biases : biasFaults u (q + fixedOf k) (sumsOf k) ≡ 0
+
+pub fit-kindred :
+    (s : List ℕ) (at : ℕ) (u : List ℕ) (q : ℕ) (k : Kind) →
+    k ≡ kindAt k s at →
+    Fit s at u q k →
+    Kindred k (kindAt k u q)
+fit-kindred s at u q k e f = framed-kindred u q k (framed s at u q k e (f .agreed))
 
 and-both : (a b : Bool) → a && b ≡ true → (a ≡ true) × (b ≡ true)
 and-both true b e = (refl, e)

@@ -6,3 +6,4 @@ pub mod Runs
 pub mod Taken
 pub mod Rewritten
 pub mod Kindred
+pub mod Passing
