@@ -7,3 +7,4 @@ pub mod Taken
 pub mod Rewritten
 pub mod Kindred
 pub mod Passing
+pub mod Steps
