@@ -8,3 +8,4 @@ pub mod Rewritten
 pub mod Kindred
 pub mod Passing
 pub mod Steps
+pub mod Reread
