@@ -7,14 +7,13 @@ use mathlib.Core.List.{List}
 use native.Mathlib.Omega.{arith}
 use borrow.Author.Count.{below-more}
 use borrow.Author.Tests.{eqb-true}
-use lib.Dec.{eqb}
 use lib.IntN.{natAbs}
 use lib.ListN.{length}
 use Rattle.records.specs.Faults.{first, spareFault}
 use Rattle.records.specs.Bytes.{byteAt, u16At, u32At, i32At}
 use Rattle.records.specs.Mark.{isMark, markAt}
-use Rattle.records.specs.Shape.{bytesOf, sizeFault}
-use Rattle.records.specs.Stored.{storedLen, biasFaults}
+use Rattle.records.specs.Shape.{sizeFault}
+use Rattle.records.specs.Stored.{biasFaults}
 use Rattle.records.specs.Layer.{sumsOf, termsOf, fixedOf, biasesAt, weightsAt, recordLen}
 use Rattle.records.specs.Conv.{convAt, convFields, convOutput, convShape, ConvOk}
 use Rattle.records.specs.Full.{fullAt, fullFields, fullOutput, FullOk}
@@ -83,28 +82,56 @@ module _ (t : List ℕ) (at : ℕ) (u : List ℕ) (q n : ℕ) (e : Same t at u q
   unfolding markAt isMark
   same-mark h l = cc (same-byte 0 at q (omega arith) (omega arith) (omega arith), e 1 (omega arith))
 
+  -- the same numbers of two and of four bytes, from byte i
   same-u16 : (i : ℕ) → i + 2 ≤ n → u16At t (at + i) ≡ u16At u (q + i)
   same-u16 i h = cc (e i (omega arith), same-byte (i + 1) (at + i + 1) (q + i + 1) (omega arith) (omega arith) (omega arith))
 
   pub same-u32 : (i : ℕ) → i + 4 ≤ n → u32At t (at + i) ≡ u32At u (q + i)
   same-u32 i h = cc (
-      e i (omega arith),
-      same-byte (i + 1) (at + i + 1) (q + i + 1) (omega arith) (omega arith) (omega arith),
-      same-byte (i + 2) (at + i + 2) (q + i + 2) (omega arith) (omega arith) (omega arith),
-      same-byte (i + 3) (at + i + 3) (q + i + 3) (omega arith) (omega arith) (omega arith))
+    e i (omega arith),
+    same-byte (i + 1) (at + i + 1) (q + i + 1) (omega arith) (omega arith) (omega arith),
+    same-byte (i + 2) (at + i + 2) (q + i + 2) (omega arith) (omega arith) (omega arith),
+    same-byte (i + 3) (at + i + 3) (q + i + 3) (omega arith) (omega arith) (omega arith),
+  )
 
-  -- the same parameters and the same faults of them
+  -- the same parameters
   pub same-kind : (k : Kind) → fixedOf k ≤ n → kindAt k t at ≡ kindAt k u q
   same-kind (Convolution c) h = cc (
-      e 2 (omega arith), e 3 (omega arith), e 4 (omega arith), e 5 (omega arith), e 6 (omega arith), e 7 (omega arith), e 8 (omega arith),
-      e 9 (omega arith), e 10 (omega arith), e 11 (omega arith), same-u32 12 (omega arith))
+    e 2 (omega arith),
+    e 3 (omega arith),
+    e 4 (omega arith),
+    e 5 (omega arith),
+    e 6 (omega arith),
+    e 7 (omega arith),
+    e 8 (omega arith),
+    e 9 (omega arith),
+    e 10 (omega arith),
+    e 11 (omega arith),
+    same-u32 12 (omega arith),
+  )
   same-kind (Fully f) h = cc (
-      same-u16 2 (omega arith), e 4 (omega arith), e 5 (omega arith), e 6 (omega arith), e 7 (omega arith), e 8 (omega arith),
-      same-u32 10 (omega arith))
+    same-u16 2 (omega arith),
+    e 4 (omega arith),
+    e 5 (omega arith),
+    e 6 (omega arith),
+    e 7 (omega arith),
+    e 8 (omega arith),
+    same-u32 10 (omega arith),
+  )
   same-kind (Addition a) h = cc (
-      e 2 (omega arith), e 3 (omega arith), e 4 (omega arith), e 5 (omega arith), same-u32 6 (omega arith), same-u32 10 (omega arith),
-      same-u32 14 (omega arith), e 18 (omega arith), e 19 (omega arith), e 20 (omega arith))
+    e 2 (omega arith),
+    e 3 (omega arith),
+    e 4 (omega arith),
+    e 5 (omega arith),
+    same-u32 6 (omega arith),
+    same-u32 10 (omega arith),
+    same-u32 14 (omega arith),
+    e 18 (omega arith),
+    e 19 (omega arith),
+    e 20 (omega arith),
+  )
 
+  -- the same fault of a spare or of a field
   pub same-own : (k : Kind) → fixedOf k ≤ n → ownFault k t at ≡ ownFault k u q
   same-own (Convolution c) h = cc (same-kind (Convolution c) h)
   same-own (Fully f) h = cc (same-kind (Fully f) h, e 9 (omega arith))
@@ -121,7 +148,7 @@ module _ (t : List ℕ) (at : ℕ) (u : List ℕ) (q n : ℕ) (e : Same t at u q
 
 -- ---- what two records of one kind have in common
 
--- kernel, stride, padding and filters
+-- two convolutions alike in filters, kernel, stride and padding
 pub record ConvFrame (c d : Conv) : Type 0 where
   pub filters : d .filters ≡ c .filters
   pub height : d .height ≡ c .height
@@ -129,7 +156,7 @@ pub record ConvFrame (c d : Conv) : Type 0 where
   pub stride : d .stride ≡ c .stride
   pub padding : d .padding ≡ c .padding
 
--- of a layer of kind k, with the record at a place
+-- a layer of kind k and the record at a place: alike in those, in the outputs, or in the other tensor
 abbrev pub Framed : Kind → List ℕ → ℕ → Type 0
 Framed (Convolution c) u q = ConvFrame c (convAt u q)
 Framed (Fully f) u q = fullAt u q .outputs ≡ f .outputs
@@ -146,6 +173,7 @@ pub record Kindred (k κ : Kind) : Type 0 where
   pub own : (s : List ℕ) (at : ℕ) → ownFault κ s at ≡ ownFault k s at
   pub mark : markOf κ ≡ markOf k
 
+-- records that are so alike are of kindred kinds
 pub framed-kindred : (u : List ℕ) (q : ℕ) (k : Kind) → Framed k u q → Kindred k (kindAt k u q)
 unfolding convOutput convShape fullOutput
 framed-kindred u q (Convolution c) f = record {
@@ -179,7 +207,7 @@ framed-kindred u q (Addition a) e = record {
   mark = refl;
 }
 
--- the first bytes of the record agree with those that the kind was read from
+-- they are alike where the first bytes agree with those that the kind was read from
 pub framed :
     (s : List ℕ) (at : ℕ) (u : List ℕ) (q : ℕ) (k : Kind) →
     k ≡ kindAt k s at →
@@ -218,6 +246,7 @@ pub record Fit (s : List ℕ) (at : ℕ) (u : List ℕ) (q : ℕ) (k : Kind) : T
   pub own : ownFault k u q ≡ 0
   pub biases : biasFaults u (q + fixedOf k) (sumsOf k) ≡ 0
 
+-- then the two are of kindred kinds
 pub fit-kindred :
     (s : List ℕ) (at : ℕ) (u : List ℕ) (q : ℕ) (k : Kind) →
     k ≡ kindAt k s at →
@@ -225,11 +254,13 @@ pub fit-kindred :
     Kindred k (kindAt k u q)
 fit-kindred s at u q k e f = framed-kindred u q k (framed s at u q k e (f .agreed))
 
+-- two tests that both hold
 and-both : (a b : Bool) → a && b ≡ true → (a ≡ true) × (b ≡ true)
 and-both true b e = (refl, e)
 and-both false true e = (e, refl)
 and-both false false e = (e, e)
 
+-- the bytes that the test compares are the same
 agree-same : (s : List ℕ) (at : ℕ) (r : List ℕ) (n : ℕ) → agree s at r n ≡ true → Same s at r 0 n
 unfolding agree
 agree-same s at r zero h i p = absurd (omega arith)
@@ -238,6 +269,7 @@ agree-same s at r (suc n) h i p =
     below-more (λ (k : ℕ). byteAt s (at + k) ≡ byteAt r (0 + k)) n (agree-same s at r n (b .0))
     (eqb-true _ _ (b .1) ∙ ap (byteAt r) (omega arith)) i (omega arith)
 
+-- a record with no fault has none of a spare or field, and none of a bias
 record-fault : (r : List ℕ) (k : Kind) → recordFault k r ≡ 0 → (ownFault k r 0 ≡ 0) × (biasFaults r (0 + fixedOf k) (sumsOf k) ≡ 0)
 unfolding convRecordFault fullRecordFault addRecordFault biasFaults
 record-fault r (Convolution c) h = first-both _ _ h
@@ -259,6 +291,7 @@ KindOk (Convolution c) = ConvOk c
 KindOk (Fully f) = FullOk f
 KindOk (Addition a) = AddOk a
 
+-- no spare or field out of range
 own-ok : (u : List ℕ) (q : ℕ) (k : Kind) → ownFault k u q ≡ 0 → KindOk (kindAt k u q)
 own-ok u q (Convolution c) h = conv-ok (convAt u q) h
 own-ok u q (Fully f) h = full-ok (fullAt u q) (first-both _ _ h .1)
@@ -278,6 +311,7 @@ pub record Replaces (y : Layer) (r : List ℕ) : Type 0 where
   pub ok : KindOk (kindFrom (y .kind) r)
   pub biases : (f : ℕ) → f < sumsOf (y .kind) → natAbs (i32At r (fixedOf (y .kind) + 4 * f)) ≤ 2 ^ 30
 
+-- test 9 leaves that, of a layer whose kind is taken
 pub replaces :
     (s : List ℕ) (n : Network) (m : ℕ) (y : Layer) (r : List ℕ) →
     KindTaken s n m y (y .kind) →

@@ -2,30 +2,24 @@
 -- Assumes nothing.
 use Prim.Native.Nat.{ℕ, zero, suc, _+_, _≤_, _<_, min}
 use mathlib.Core.Path.{_≡_, refl, sym, _∙_, ap, subst, subst⁻¹}
-use mathlib.Core.Bool.{Bool, true, false, cond}
 use mathlib.Core.List.{List}
 use native.Mathlib.Omega.{arith}
-use borrow.Author.Tests.{le-leb, leb-true}
-use lib.Dec.{leb}
 use lib.ListN.{length, set, getD, length-set, List·getD-map}
 use lib.Seq.{getD-set-same, getD-set-other, set-set, set-comm, map-set-same}
 use Rattle.records.specs.Bytes.{byteAt}
 use Rattle.records.specs.Faults.{first, cutFault}
 use Rattle.records.specs.Mark.{isMark, markAt}
-use Rattle.records.specs.Shape.{bytesOf}
 use Rattle.records.specs.Layer.{sumsOf, recordLen}
-use Rattle.records.specs.declared.shape.Shape.{Shape}
 use Rattle.records.specs.declared.layer.Kind.{Kind}
 use Rattle.records.specs.declared.layer.Layer.{Layer}
-use Rattle.records.specs.declared.layer.Read.the-variants.{Refused, Found}
+use Rattle.records.specs.declared.layer.Read.the-variants.{Found}
 use Rattle.records.specs.declared.mark.Mark.{Mark}
 use Rattle.records.specs.declared.mark.Mark.the-variants.{CV, FU, AD, Other}
 use Rattle.records.proofs.Tests.{first-both}
 use Rattle.network.specs.Network.{blankLayer, layerOf, tensorOf}
 use Rattle.network.specs.Head.{pictureAt, headMark, headFault}
-use Rattle.network.specs.Decode.{readMarked, readLayer, pushed, runOf, startOf, stopped, endFault, decodedAs, ranOf, decodeOf}
+use Rattle.network.specs.Decode.{readMarked, readLayer, pushed, runOf, startOf, endFault, decodeOf}
 use Rattle.network.specs.Replace.{replaceFault}
-use Rattle.network.specs.Taken.{Taken}
 use Rattle.network.specs.declared.net.Network.{Network}
 use Rattle.network.specs.declared.file.Progress.{Progress}
 use Rattle.network.specs.declared.file.Decoded.{Decoded}
@@ -34,7 +28,7 @@ use Rattle.network.proofs.Taken.{taken}
 use Rattle.network.proofs.Rewritten.{rewritten, rewritten-length, byte-before, byte-within, byte-after, Same}
 use Rattle.network.proofs.Kindred.{kindFrom, layerAs, Fit, fit-kindred, replace-fit}
 use Rattle.network.proofs.Passing.{found-as, found-again, found-same}
-use Rattle.network.proofs.Steps.{Steps, here, more, run-steps, steps-run, kept-count, kept-layer, next-layer, later-start}
+use Rattle.network.proofs.Steps.{Steps, here, more, run-steps, steps-run, kept-count, next-layer, later-start, atEnd, taken-end, end-taken}
 
 -- the network with other parameters at layer k
 abbrev pub withKind : Network → ℕ → Kind → Network
@@ -63,11 +57,19 @@ module _ (n : Network) (k : ℕ) (κ : Kind) where
       ∙ ap (λ (x : List A). getD x m (f blankLayer)) (map-set-same f (n .layers) k _ blankLayer e)
       ∙ List·getD-map f (n .layers) m blankLayer
 
-  -- so the tensors are of the same shapes, and a record is read as before
+  -- layer k has the other parameters, and every other layer is as it was
+  pub with-here : k < length (n .layers) → layerOf (withKind n k κ) k ≡ layerAs (layerOf n k) κ
+  with-here h = getD-set-same (n .layers) k _ blankLayer h
+
+  pub with-others : (m : ℕ) → (m ≡ k → ⊥) → layerOf (withKind n k κ) m ≡ layerOf n m
+  with-others m h = getD-set-other (n .layers) k m _ blankLayer h
+
+  -- so the tensors are of the same shapes
   pub with-tensor : (t : ℕ) → tensorOf (withKind n k κ) t ≡ tensorOf n t
   with-tensor zero = refl
   with-tensor (suc m) = with-field (λ (y : Layer). y .output) refl m
 
+  -- so a record is read as before
   with-read : (s : List ℕ) (at m : ℕ) → readLayer s at (withKind n k κ) m ≡ readLayer s at n m
   unfolding readLayer
   with-read s at m = cc (by-mark (markAt s at)) where
@@ -77,16 +79,18 @@ module _ (n : Network) (k : ℕ) (κ : Kind) where
     by-mark AD = cc (with-tensor m, with-tensor (min (byteAt s (at + 2)) m))
     by-mark Other = refl
 
--- a layer found after layer k, and layer k itself, found with other parameters
 module _ (p : Progress) (l : Layer) (next k : ℕ) (κ : Kind) where
+  -- a layer found after layer k, which has other parameters
   pushed-after : k < p .made → pushed (withKindAt p k κ) l next ≡ withKindAt (pushed p l next) k κ
   unfolding pushed
   pushed-after h =
       let ls = p .network .layers in
       cc (
-      set-comm ls k (p .made) (layerAs (layerOf (p .network) k) κ) l (λ e. omega arith),
-      getD-set-other ls (p .made) k l blankLayer (λ e. omega arith))
+        set-comm ls k (p .made) (layerAs (layerOf (p .network) k) κ) l (λ e. omega arith),
+        getD-set-other ls (p .made) k l blankLayer (λ e. omega arith),
+      )
 
+  -- layer k itself, found with other parameters
   pushed-at :
       p .made ≡ k →
       k < length (p .network .layers) →
@@ -171,41 +175,22 @@ module _ (s t r : List ℕ) (k : ℕ) where
 start-same : (s t : List ℕ) → length t ≡ length s → ((i : ℕ) → i < 10 → byteAt t i ≡ byteAt s i) → startOf t ≡ startOf s
 unfolding startOf headFault headMark isMark pictureAt cutFault
 start-same s t long b = cc (
-    b 0 (omega arith), b 1 (omega arith), b 2 (omega arith), b 3 (omega arith), b 4 (omega arith), b 5 (omega arith), b 6 (omega arith),
-    b 7 (omega arith), b 8 (omega arith), b 9 (omega arith))
+  b 0 (omega arith),
+  b 1 (omega arith),
+  b 2 (omega arith),
+  b 3 (omega arith),
+  b 4 (omega arith),
+  b 5 (omega arith),
+  b 6 (omega arith),
+  b 7 (omega arith),
+  b 8 (omega arith),
+  b 9 (omega arith),
+)
 
+-- the file's end is the same
 end-same : (s t : List ℕ) (at : ℕ) → length t ≡ length s → endFault t at ≡ endFault s at
 unfolding endFault
 end-same s t at long = cc
-
--- where the run over the layers ends
-abbrev atEnd : List ℕ → Progress
-atEnd s = runOf s (startOf s .network .count) (startOf s)
-
--- a file that is taken is short, and its run ends at the file's end
-taken-end : (s : List ℕ) → decodeOf s .refusal ≡ 0 → (length s ≤ 65536) × (first (atEnd s .refusal) (endFault s (atEnd s .at)) ≡ 0)
-unfolding decodeOf decodedAs
-taken-end s = by-length (leb (length s) 65536) refl where
-  by-fault : (k : ℕ) → decodedAs k (atEnd s) .refusal ≡ 0 → k ≡ 0
-  by-fault zero h = refl
-  by-fault (suc k) h = h
-
-  by-length :
-      (b : Bool) →
-      leb (length s) 65536 ≡ b →
-      cond b (ranOf s (startOf s)) (decodedAs 3 (stopped 3)) .refusal ≡ 0 →
-      (length s ≤ 65536) × (first (atEnd s .refusal) (endFault s (atEnd s .at)) ≡ 0)
-  by-length true e h = (leb-true _ _ e, by-fault _ h)
-  by-length false e h = absurd (omega arith)
-
-end-taken :
-    (s : List ℕ) (q : Progress) →
-    length s ≤ 65536 →
-    atEnd s ≡ q →
-    first (q .refusal) (endFault s (q .at)) ≡ 0 →
-    decodeOf s ≡ record { refusal = 0; network = q .network }
-unfolding decodeOf decodedAs
-end-taken s q small ran fine = simp (le-leb (length s) 65536 small, ran, fine)
 
 -- ---- the whole file
 

@@ -1,10 +1,10 @@
 -- The file with a record written over: what stays of it, and the record itself.
 -- Assumes nothing.
 use Prim.Native.Nat.{ℕ, _+_, _-_, _≤_, _<_}
-use mathlib.Core.Path.{_≡_, refl, sym, _∙_, ap, subst}
+use mathlib.Core.Path.{_≡_, sym, _∙_, ap, subst}
 use mathlib.Core.List.{List, _++_}
 use native.Mathlib.Omega.{arith}
-use lib.ListN.{length, take, drop, getD, length-append, length-drop, List·getD-append}
+use lib.ListN.{length, take, drop, length-append, length-drop, List·getD-append}
 use lib.Seq.{length-take-le, take-length, getD-take, getD-drop, getD-append-add, ext-getD}
 use Rattle.records.specs.Bytes.{byteAt}
 
@@ -26,11 +26,12 @@ pub same-part :
 same-part t at u q n a b e =
     ext-getD 0 _ _ (long t at a ∙ sym (long u q b)) (λ i h.
     let k : i < n = subst (λ (m : ℕ). i < m) (long t at a) h in
-    rw (getD-take, getD-take, getD-drop, getD-drop) (e i k)) where
-  long : (v : List ℕ) (p : ℕ) → p + n ≤ length v → length (take n (drop p v)) ≡ n
-  long v p h = length-take-le n (drop p v) (simp length-drop (omega arith))
+    simp (getD-take, getD-drop) (e i k)) where
+      long : (v : List ℕ) (p : ℕ) → p + n ≤ length v → length (take n (drop p v)) ≡ n
+      long v p h = length-take-le n (drop p v) (simp length-drop (omega arith))
 
 module _ (s : List ℕ) (at : ℕ) (r : List ℕ) (h : at + length r ≤ length s) where
+  -- how long the file is before the record, and with it
   front : length (take at s) ≡ at
   front = length-take-le at s (omega arith)
 
