@@ -7,3 +7,8 @@ pub mod Places
 pub mod Replaced
 pub mod Runs
 pub mod Taken
+pub mod Rewritten
+pub mod Kindred
+pub mod Passing
+pub mod Steps
+pub mod Reread
