@@ -30,8 +30,7 @@ pub fn tensors_of(n: Network) -> Tensors
 
 // How layer m hangs on its inputs.
 pub fn link_of(n: Network, m: usize) -> Link
-    requires { ⌜ (m < 16) × ((t : ℕ) → tensorOf n t .rows ≤ 16384) ⌝ }
-    requires { ⌜ layerOf n m .input .rows ≤ 16384 ⌝ }
+    requires { ⌜ (m < 16) × (layerOf n m .input .rows ≤ 16384) × (layerOf n m .output .rows ≤ 16384) ⌝ }
     ensures { λ r. ⌜ r ≡ linkOf n m ⌝ }
 {
     let y = layer(n, m);

@@ -1,0 +1,6 @@
+-- Laws that belong to no one function.
+pub mod Links
+pub mod Numbers
+pub mod Passed
+pub mod Rows
+pub mod Sums

@@ -1,0 +1,122 @@
+-- How the layers hang on their inputs: what a network that is taken ensures of its links.
+-- Assumes nothing.
+use Prim.Native.Nat.{ℕ, zero, suc, _+_, _-_, _*_, _/_, _≤_, _<_}
+use mathlib.Core.Path.{_≡_, refl, sym, _∙_, ap, subst}
+use mathlib.Core.List.{List}
+use native.Mathlib.Omega.{arith}
+use Rattle.records.specs.Shape.{GoodShape}
+use Rattle.records.specs.Conv.{convOutput}
+use Rattle.records.specs.Full.{fullOutput}
+use Rattle.records.specs.declared.shape.Shape.{Shape}
+use Rattle.records.specs.declared.conv.Conv.{Conv}
+use Rattle.records.specs.declared.layer.Kind.{Kind}
+use Rattle.records.specs.declared.layer.Kind.the-variants.{Convolution, Fully, Addition}
+use Rattle.records.specs.declared.layer.Layer.{Layer}
+use Rattle.network.specs.Network.{layerOf, tensorOf}
+use Rattle.network.specs.Taken.{ConvTaken, KindTaken, Taken}
+use Rattle.network.specs.declared.net.Network.{Network}
+use Rattle.bands.specs.declared.reach.Link.{Link}
+use Rattle.bands.specs.Windows.{Shape as Chain, rowsIn, Sound}
+use Rattle.bands.proofs.Reached.{row-starts}
+use Rattle.checks.specs.Tensors.{linkBy, linkOf}
+
+-- the link of a layer that is of kind k
+pub link-at : (n : Network) (m : ℕ) (y : Layer) (k : Kind) → y ≡ layerOf n m → y .kind ≡ k → linkBy k y m ≡ linkOf n m
+link-at n m y k e h = ap (λ (x : Kind). linkBy x y m) (sym h) ∙ ap (λ (x : Layer). linkBy (x .kind) x m) e
+
+-- what the bands need of the link of layer m
+pub record LinkOk (n : Network) (m : ℕ) (y : Link) : Type 0 where
+  pub other-before : y .other ≤ m
+  pub other-rows : tensorOf n (y .other) .rows ≡ tensorOf n m .rows
+  pub before-few : y .before ≤ 256
+  pub before-less : y .before < y .kernel
+  pub kernel-some : 0 < y .kernel
+  pub stride-some : 0 < y .stride
+  pub stride-few : y .stride ≤ 256
+  pub rows-are : y .rows ≡ tensorOf n (suc m) .rows
+  -- no window starts past the input's last row
+  pub starts : (i : ℕ) → i < y .rows → i * y .stride < tensorOf n m .rows + y .before
+
+-- the rows of a convolution
+conv-starts : (s : List ℕ) (y : Layer) (c : Conv) → ConvTaken s y c → (i : ℕ) → i < y .output .rows → i * c .stride < y .input .rows + c .padding
+unfolding convOutput
+conv-starts s y c t i h =
+    let p = c .padding in
+    let rows = y .input .rows in
+    let padded : rows + 2 * p - c .height ≡ rows + p + p - c .height = omega arith in
+    let made = ap (λ (x : Shape). x .rows) (t .output) ∙ ap (λ (k : ℕ). k / c .stride + 1) padded in
+    row-starts p p (c .height) (c .stride) rows i (t .ok .stride-some) (t .ok .padding-rows)
+    (omega (arith, t .rows-fit))
+    (subst (λ (k : ℕ). i < k) made h)
+
+module _ (s : List ℕ) (n : Network) (m : ℕ) (y : Layer) (input : y .input ≡ tensorOf n m) (good : GoodShape (y .input)) (makes : y .output ≡ tensorOf n (suc m)) where
+  link-by : (k : Kind) → KindTaken s n m y k → LinkOk n m (linkBy k y m)
+  unfolding fullOutput
+  link-by (Convolution c) t =
+      let rows = ap (λ (x : Shape). x .rows) input in
+      record {
+        other-before = omega arith;
+        other-rows = refl;
+        before-few = omega (arith, t .ok .padding-rows, t .ok .height-few);
+        before-less = t .ok .padding-rows;
+        kernel-some = t .ok .height-some;
+        stride-some = t .ok .stride-some;
+        stride-few = omega (arith, t .ok .stride-few);
+        rows-are = ap (λ (x : Shape). x .rows) makes;
+        starts = λ i h. omega (arith, conv-starts s y c t i h, rows);
+      }
+  link-by (Fully f) t =
+      let rows = ap (λ (x : Shape). x .rows) input in
+      record {
+        other-before = omega arith;
+        other-rows = refl;
+        before-few = omega arith;
+        before-less = good .rows-some;
+        kernel-some = good .rows-some;
+        stride-some = omega arith;
+        stride-few = omega arith;
+        rows-are = ap (λ (x : Shape). x .rows) makes;
+        starts = λ i h. omega (arith, good .rows-some, ap (λ (x : Shape). x .rows) (t .output), rows);
+      }
+  link-by (Addition a) t =
+      let rows = ap (λ (x : Shape). x .rows) input in
+      record {
+        other-before = t .other-there;
+        other-rows = ap (λ (x : Shape). x .rows) (t .other-shape ∙ input);
+        before-few = omega arith;
+        before-less = omega arith;
+        kernel-some = omega arith;
+        stride-some = omega arith;
+        stride-few = omega arith;
+        rows-are = ap (λ (x : Shape). x .rows) makes;
+        starts = λ i h. omega (arith, ap (λ (x : Shape). x .rows) (t .output), rows);
+      }
+
+-- the layers as the history sees them
+abbrev pub chainOf : Network → Chain
+chainOf n = record { n = n .count; top = n .picture .rows; links = linkOf n }
+
+link-rows : (k : Kind) (y : Layer) (m : ℕ) → linkBy k y m .rows ≡ y .output .rows
+link-rows (Convolution c) y m = refl
+link-rows (Fully f) y m = refl
+link-rows (Addition a) y m = refl
+
+pub chain-rows : (n : Network) (t : ℕ) → rowsIn (chainOf n) t ≡ tensorOf n t .rows
+chain-rows n zero = refl
+chain-rows n (suc m) = link-rows (layerOf n m .kind) (layerOf n m) m
+
+module _ (s : List ℕ) (n : Network) (t : Taken s n) where
+  pub link-ok : (m : ℕ) → m < n .count → LinkOk n m (linkOf n m)
+  link-ok m h =
+      let y = t .layers m h in
+      link-by s n m (layerOf n m) (y .input) (subst GoodShape (sym (y .input)) (t .shapes m (omega arith))) refl (layerOf n m .kind) (y .kind)
+
+  pub links-sound : Sound (chainOf n)
+  links-sound = record {
+    other-before = λ m h. link-ok m h .other-before;
+    other-rows = λ m h. chain-rows n (linkOf n m .other) ∙ link-ok m h .other-rows ∙ sym (chain-rows n m);
+    some-rows = λ u h. omega (arith, chain-rows n u, t .shapes u h .rows-some);
+    stride-pos = λ m h. link-ok m h .stride-some;
+    before-less = λ m h. link-ok m h .before-less;
+    starts = λ m i h q. omega (arith, link-ok m h .starts i q, chain-rows n m);
+  }

@@ -1,0 +1,31 @@
+-- `checks::tests::slice_fault` meets its contract. Assumes nothing.
+use Prim.Native.Nat.{ℕ}
+use mathlib.Core.Path.{_≡_, sym, _∙_, ap}
+use borrow.Author.Needs.{needs}
+use borrow.Author.Tests.{eq-eqb, ne-eqb}
+use Rattle.records.specs.Shape.{bytesOf}
+use Rattle.network.specs.Network.{tensorOf}
+use Rattle.checks.specs.Tests.{sliceFault}
+use Rattle.checks.proofs.tests.slice_fault.Statement.{statement}
+use Rattle.checks.proofs.tests.slice_fault.Tie as tie
+
+tensor-requires : tie.Need-tensor-requires
+tensor-requires c κs = search needs
+
+bytes-of-requires : tie.Need-bytes-of-requires
+bytes-of-requires c κs = rw (c .tensor .ensures) (search needs)
+
+-- the length that is asked for is that of the last tensor
+asked : (c : tie.After-bytes-of) → c .bytes-of .result ≡ bytesOf (tensorOf (c .before .before .args .n) (c .before .before .args .n .count))
+asked c = c .bytes-of .ensures ∙ ap bytesOf (c .before .tensor .ensures)
+
+returns : tie.Need-returns
+unfolding sliceFault
+returns c = rw (eq-eqb _ _ (c .if1 .taken ∙ asked (c .before)))
+
+returns-2 : tie.Need-returns-2
+unfolding sliceFault
+returns-2 c = rw (ne-eqb _ _ (λ e. c .if1 .left (e ∙ sym (asked (c .before)))))
+
+pub slice-fault-spec : {M : Type 1} → statement M
+slice-fault-spec = tie.close (tie.spec tensor-requires bytes-of-requires returns returns-2)
