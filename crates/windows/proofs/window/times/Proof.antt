@@ -1,0 +1,15 @@
+-- `windows::window::times` meets its contract: the product is at most that of the bounds.
+-- Assumes nothing.
+use native.Mathlib.Nat.{mul-le-mul}
+use native.Mathlib.Omega.{arith}
+use Rattle.windows.proofs.window.times.Statement.{statement}
+use Rattle.windows.proofs.window.times.Tie as tie
+
+mul-result : tie.Need-mul-result
+mul-result c = omega (arith, mul-le-mul (c .pre .0) (c .pre .1))
+
+returns : tie.Need-returns
+returns c = omega (arith, mul-le-mul (c .pre .0) (c .pre .1))
+
+pub times-spec : {M : Type 1} → statement M
+times-spec = tie.close (tie.spec mul-result returns)
