@@ -1,0 +1,106 @@
+-- `network::head::head_fault` meets its contract.
+-- Assumes nothing.
+use mathlib.Core.Path.{sym, _∙_}
+use native.Mathlib.Omega.{arith}
+use lib.Dec.{lit≤}
+use Rattle.network.specs.Head.{headFault}
+use Rattle.records.proofs.Tests.{met, passed, cut-there}
+use borrow.Author.Needs.{needs}
+use Rattle.network.proofs.head.head_fault.Statement.{statement}
+use Rattle.network.proofs.head.head_fault.Tie as tie
+
+cut-fault-requires : tie.Need-cut-fault-requires
+cut-fault-requires c κs = search needs
+
+returns : tie.Need-returns
+unfolding headFault
+returns c = met _ _ _ (c .before .cut-fault .ensures) (c .if1 .taken)
+
+shared-slice-read-layers-fault : tie.Need-shared-slice-read-layers-fault
+shared-slice-read-layers-fault c = omega (arith, cut-there _ _ _ (omega arith) (sym (c .before .before .cut-fault .ensures) ∙ c .before .if1 .left))
+
+layers-fault-requires : tie.Need-layers-fault-requires
+layers-fault-requires c κs = search needs
+
+picture-at-requires : tie.Need-picture-at-requires
+picture-at-requires c κs = omega (arith, cut-there _ _ _ (omega arith) (sym (c .before .before .before .cut-fault .ensures) ∙ c .before .before .if1 .left))
+
+size-fault-requires : tie.Need-size-fault-requires
+size-fault-requires c κs = search needs
+
+first-of-requires : tie.Need-first-of-requires
+first-of-requires c κs = search needs
+
+shared-slice-read-filters-fault : tie.Need-shared-slice-read-filters-fault
+shared-slice-read-filters-fault c = omega (arith, cut-there _ _ _ (omega arith) (sym (c .before .before .before .before .before .before .before .cut-fault .ensures) ∙ c .before .before .before .before .before .before .if1 .left))
+
+filters-fault-requires : tie.Need-filters-fault-requires
+filters-fault-requires c κs = search needs
+
+first-of-requires-2 : tie.Need-first-of-requires-2
+first-of-requires-2 c κs = search needs
+
+u16-at-requires : tie.Need-u16-at-requires
+u16-at-requires c κs = omega (arith, cut-there _ _ _ (omega arith) (sym (c .before .before .before .before .before .before .before .before .before .cut-fault .ensures) ∙ c .before .before .before .before .before .before .before .before .if1 .left))
+
+outputs-fault-requires : tie.Need-outputs-fault-requires
+outputs-fault-requires c κs = search needs
+
+first-of-requires-3 : tie.Need-first-of-requires-3
+first-of-requires-3 c κs = search needs
+
+u16-at-requires-2 : tie.Need-u16-at-requires-2
+u16-at-requires-2 c κs = omega (arith, cut-there _ _ _ (omega arith) (sym (c .before .before .before .before .before .before .before .before .before .before .before .before .cut-fault .ensures) ∙ c .before .before .before .before .before .before .before .before .before .before .before .if1 .left))
+
+outputs-fault-requires-2 : tie.Need-outputs-fault-requires-2
+outputs-fault-requires-2 c κs = search needs
+
+first-of-requires-4 : tie.Need-first-of-requires-4
+first-of-requires-4 c κs = search needs
+
+mark-fault-requires : tie.Need-mark-fault-requires
+mark-fault-requires c κs = omega (arith, cut-there _ _ _ (omega arith) (sym (c .before .before .before .before .before .before .before .before .before .before .before .before .before .before .before .cut-fault .ensures) ∙ c .before .before .before .before .before .before .before .before .before .before .before .before .before .before .if1 .left))
+
+shared-slice-read-spare-fault : tie.Need-shared-slice-read-spare-fault
+shared-slice-read-spare-fault c = omega (arith, cut-there _ _ _ (omega arith) (sym (c .before .before .before .before .before .before .before .before .before .before .before .before .before .before .before .before .before .cut-fault .ensures) ∙ c .before .before .before .before .before .before .before .before .before .before .before .before .before .before .before .before .if1 .left))
+
+spare-fault-requires : tie.Need-spare-fault-requires
+spare-fault-requires c κs = search needs
+
+first-of-requires-5 : tie.Need-first-of-requires-5
+first-of-requires-5 c κs = search needs
+
+first-of-requires-6 : tie.Need-first-of-requires-6
+first-of-requires-6 c κs = search needs
+
+returns-2 : tie.Need-returns-2
+unfolding headFault
+returns-2 c = passed _ _ _ _ (c .before .before .before .before .before .before .before .before .before .before .before .before .before .before .before .before .before .before .before .before .cut-fault .ensures) (c .before .before .before .before .before .before .before .before .before .before .before .before .before .before .before .before .before .before .before .if1 .left)
+    (simp (c .before .first-of5 .ensures, c .before .before .before .before .before .first-of4 .ensures, c .before .before .before .before .before .before .before .before .first-of3 .ensures, c .before .before .before .before .before .before .before .before .before .before .before .first-of2 .ensures, c .before .before .before .before .before .before .before .before .before .before .before .before .before .before .first-of .ensures, c .before .before .before .before .mark-fault .ensures, c .before .before .spare-fault .ensures, c .before .before .before .before .before .before .before .before .before .outputs-fault .ensures, c .before .before .before .before .before .before .outputs-fault2 .ensures, c .before .before .before .before .before .before .before .before .before .before .before .before .filters-fault .ensures, c .before .before .before .before .before .before .before .before .before .before .before .before .before .before .before .before .before .layers-fault .ensures, c .before .before .before .before .before .before .before .before .before .before .before .before .before .before .before .size-fault .ensures, c .before .before .before .before .before .before .before .before .before .before .before .before .before .before .before .before .picture-at .ensures .0, c .before .before .before .before .before .before .before .before .before .before .u16-at .ensures, c .before .before .before .before .before .before .before .u16-at2 .ensures) at (c .first-of6 .ensures))
+
+pub head-fault-spec : {M : Type 1} → statement M
+head-fault-spec =
+    tie.close
+    (tie.spec
+    cut-fault-requires
+    returns
+    shared-slice-read-layers-fault
+    layers-fault-requires
+    picture-at-requires
+    size-fault-requires
+    first-of-requires
+    shared-slice-read-filters-fault
+    filters-fault-requires
+    first-of-requires-2
+    u16-at-requires
+    outputs-fault-requires
+    first-of-requires-3
+    u16-at-requires-2
+    outputs-fault-requires-2
+    first-of-requires-4
+    mark-fault-requires
+    shared-slice-read-spare-fault
+    spare-fault-requires
+    first-of-requires-5
+    first-of-requires-6
+    returns-2)

@@ -1,0 +1,30 @@
+-- `network::net::tensor` meets its contract: the picture, or what the layer before makes.
+-- Assumes nothing.
+use Prim.Native.Nat.{suc, _-_}
+use mathlib.Core.Path.{_≡_, sym, ap}
+use native.Mathlib.Omega.{arith}
+use borrow.Author.Needs.{needs}
+use Rattle.network.specs.Network.{tensorOf}
+use Rattle.network.proofs.net.tensor.Statement.{statement}
+use Rattle.network.proofs.net.tensor.Tie as tie
+
+returns : tie.Need-returns
+returns c = sym (ap (tensorOf (c .before .before .args .t1)) (c .before .if1 .taken))
+
+sub-l : tie.Need-sub-l
+sub-l c = search needs
+
+mul-l : tie.Need-mul-l
+mul-l c = search needs
+
+element-copy-out-l : tie.Need-element-copy-out-l
+element-copy-out-l c = search needs
+
+returns-2 : tie.Need-returns-2
+returns-2 c =
+    let a = c .before .before .before .args in
+    let some : suc (a .t - 1) ≡ a .t = omega arith in
+    ap (tensorOf (a .t1)) some
+
+pub tensor-spec : {M : Type 1} → statement M
+tensor-spec = tie.close (tie.spec returns sub-l mul-l element-copy-out-l returns-2)

@@ -1,0 +1,116 @@
+-- The whole file: its length, the head, the layers in order, and that nothing follows.
+-- Assumes nothing.
+use Prim.Native.Nat.{ℕ, zero, suc, _+_, _≤_, _<_, min}
+use mathlib.Core.Path.{_≡_}
+use mathlib.Core.Bool.{cond}
+use mathlib.Core.List.{List, [], _∷_}
+use lib.Dec.{leb, eqb}
+use lib.ListN.{length, set}
+use Rattle.records.specs.Faults.{unless, firstFault, cutFault}
+use Rattle.records.specs.Bytes.{byteAt}
+use Rattle.records.specs.Mark.{markAt, fixedLen}
+use Rattle.records.specs.Shape.{bytesOf, GoodShape}
+use Rattle.records.specs.Layer.{sumsOf}
+use Rattle.records.specs.Conv.{readConv}
+use Rattle.records.specs.Full.{readFull}
+use Rattle.records.specs.Add.{readAdd}
+use Rattle.records.specs.declared.shape.Shape.{Shape}
+use Rattle.records.specs.declared.layer.Layer.{Layer}
+use Rattle.records.specs.declared.layer.Read.{Read}
+use Rattle.records.specs.declared.layer.Read.the-variants.{Refused, Found}
+use Rattle.records.specs.declared.mark.Mark.{Mark}
+use Rattle.records.specs.declared.mark.Mark.the-variants.{CV, FU, AD, Other}
+use Rattle.network.specs.Network.{blankShape, emptyNetwork, tensorOf}
+use Rattle.network.specs.Head.{pictureAt, headFault}
+use Rattle.network.specs.declared.net.Network.{Network}
+use Rattle.network.specs.declared.file.Progress.{Progress}
+use Rattle.network.specs.declared.file.Decoded.{Decoded}
+
+-- the record of layer made + 1, which reads tensor made, by its mark. An add's other tensor is refused by its number where it is not there
+-- yet, so it does not matter which shape stands for it then
+abbrev pub readMarked : Mark → List ℕ → ℕ → Network → ℕ → Read
+readMarked CV s at n made = readConv s at (tensorOf n made) (n .area) (n .store)
+readMarked FU s at n made = readFull s at (tensorOf n made) (n .area) (n .store)
+readMarked AD s at n made = readAdd s at (tensorOf n made) (n .area) (n .store) made (tensorOf n (min (byteAt s (at + 2)) made))
+readMarked Other s at n made = Refused 1
+
+abbrev pub unlessCut : ℕ → Read → Read
+unlessCut zero r = r
+unlessCut (suc n) r = Refused (suc n)
+
+-- first the mark and the fixed part are present
+unfoldable pub readLayer : List ℕ → ℕ → Network → ℕ → Read
+readLayer s at n made = unlessCut (cutFault s at (fixedLen (markAt s at))) (readMarked (markAt s at) s at n made)
+
+-- a refusal: the number, and no network
+unfoldable pub stopped : ℕ → Progress
+stopped n = record { refusal = n; at = 0; made = 0; network = emptyNetwork blankShape 0 0 0 }
+
+unfoldable pub started : ℕ → Shape → ℕ → ℕ → Progress
+started zero picture z count = record { refusal = 0; at = 10; made = 0; network = emptyNetwork picture z count (bytesOf picture) }
+started (suc fault) picture z count = stopped (suc fault)
+
+unfoldable pub startOf : List ℕ → Progress
+startOf s = started (headFault s) (pictureAt s) (byteAt s 7) (byteAt s 8)
+
+-- one more layer
+unfoldable pub pushed : Progress → Layer → ℕ → Progress
+pushed p l next = record {
+  refusal = 0;
+  at = next;
+  made = p .made + 1;
+  network = record {
+    picture = p .network .picture;
+    zero = p .network .zero;
+    count = p .network .count;
+    layers = set (p .network .layers) (p .made) l;
+    area = p .network .area + bytesOf (l .output);
+    store = p .network .store + sumsOf (l .kind);
+  };
+}
+
+abbrev pub stepRead : Progress → Read → Progress
+stepRead p (Refused n) = stopped n
+stepRead p (Found l next) = pushed p l next
+
+-- the next layer's record, unless the file is refused already
+abbrev pub stepFrom : ℕ → List ℕ → Progress → Progress
+stepFrom zero s p = stepRead p (readLayer s (p .at) (p .network) (p .made))
+stepFrom (suc n) s p = p
+
+unfoldable pub stepOf : List ℕ → Progress → Progress
+stepOf s p = stepFrom (p .refusal) s p
+
+-- n layers more
+unfoldable pub runOf : List ℕ → ℕ → Progress → Progress
+runOf s zero p = p
+runOf s (suc n) p = runOf s n (stepOf s p)
+
+-- nothing follows the last layer
+unfoldable pub endFault : List ℕ → ℕ → ℕ
+endFault s at = unless (eqb at (length s)) 1
+
+unfoldable pub decodedAs : ℕ → Progress → Decoded
+decodedAs zero p = record { refusal = 0; network = p .network }
+decodedAs (suc n) p = record { refusal = suc n; network = emptyNetwork blankShape 0 0 0 }
+
+abbrev pub finishOf : List ℕ → Progress → Decoded
+finishOf s p = decodedAs (firstFault (p .refusal ∷ endFault s (p .at) ∷ [])) p
+
+abbrev pub ranOf : List ℕ → Progress → Decoded
+ranOf s p = finishOf s (runOf s (p .network .count) p)
+
+-- file length is tested first, then records in order, trailing bytes last
+unfoldable pub decodeOf : List ℕ → Decoded
+decodeOf s = cond (leb (length s) 65536) (ranOf s (startOf s)) (decodedAs 3 (stopped 3))
+
+-- what the next record's reader needs of a file read so far
+pub record Next (s : List ℕ) (p : Progress) : Type 0 where
+  pub at-in : p .at ≤ length s
+  pub made-few : p .made < 16
+  pub area-few : p .network .area ≤ 65536
+  pub store-few : p .network .store ≤ 65536
+  pub last-good : GoodShape (tensorOf (p .network) (p .made))
+
+abbrev pub CanStep : List ℕ → Progress → Type 0
+CanStep s p = p .refusal ≡ 0 → Next s p

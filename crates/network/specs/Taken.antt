@@ -1,0 +1,78 @@
+-- What is known of the network of a file that is taken: what the crates above rest on.
+-- Assumes nothing.
+use Prim.Native.Nat.{ℕ, zero, suc, _+_, _-_, _*_, _≤_, _<_, _^_}
+use mathlib.Core.Path.{_≡_}
+use mathlib.Core.List.{List}
+use lib.IntN.{natAbs}
+use lib.ListN.{length}
+use Rattle.records.specs.Bytes.{byteAt, i32At}
+use Rattle.records.specs.Shape.{bytesOf, GoodShape}
+use Rattle.records.specs.Layer.{sumsOf, biasesAt, recordLen}
+use Rattle.records.specs.Conv.{convAt, convOutput, ConvOk}
+use Rattle.records.specs.Full.{fullAt, fullOutput, FullOk}
+use Rattle.records.specs.Add.{addAt, AddOk}
+use Rattle.records.specs.declared.shape.Shape.{Shape}
+use Rattle.records.specs.declared.conv.Conv.{Conv}
+use Rattle.records.specs.declared.full.Full.{Full}
+use Rattle.records.specs.declared.add.Add.{Add}
+use Rattle.records.specs.declared.layer.Kind.{Kind}
+use Rattle.records.specs.declared.layer.Kind.the-variants.{Convolution, Fully, Addition}
+use Rattle.records.specs.declared.layer.Layer.{Layer}
+use Rattle.network.specs.Network.{layerOf, tensorOf, placeOf}
+use Rattle.network.specs.declared.net.Network.{Network}
+
+-- a convolution: its record's fields, in range, and each padded side at least the kernel's
+pub record ConvTaken (s : List ℕ) (y : Layer) (c : Conv) : Type 0 where
+  pub read : c ≡ convAt s (y .start)
+  pub ok : ConvOk c
+  pub rows-fit : c .height ≤ y .input .rows + 2 * c .padding
+  pub columns-fit : c .width ≤ y .input .columns + 2 * c .padding
+  pub output : y .output ≡ convOutput (y .input) c
+
+pub record FullTaken (s : List ℕ) (y : Layer) (f : Full) : Type 0 where
+  pub read : f ≡ fullAt s (y .start)
+  pub ok : FullOk f
+  pub output : y .output ≡ fullOutput f
+
+-- an add: the other tensor is there and of the same shape
+pub record AddTaken (s : List ℕ) (n : Network) (m : ℕ) (y : Layer) (a : Add) : Type 0 where
+  pub read : a ≡ addAt s (y .start)
+  pub ok : AddOk a
+  pub other-there : a .other ≤ m
+  pub other-shape : tensorOf n (a .other) ≡ y .input
+  pub output : y .output ≡ y .input
+
+abbrev pub KindTaken : List ℕ → Network → ℕ → Layer → Kind → Type 0
+KindTaken s n m y (Convolution c) = ConvTaken s y c
+KindTaken s n m y (Fully f) = FullTaken s y f
+KindTaken s n m y (Addition a) = AddTaken s n m y a
+
+-- layer m, of the network n that the file s holds
+pub record LayerTaken (s : List ℕ) (n : Network) (m : ℕ) (y : Layer) : Type 0 where
+  pub input : y .input ≡ tensorOf n m
+  pub kind : KindTaken s n m y (y .kind)
+  pub record-in : y .start + recordLen y ≤ length s
+  pub biases : (f : ℕ) → f < sumsOf (y .kind) → natAbs (i32At s (biasesAt y + 4 * f)) ≤ 2 ^ 30
+  -- the tensors, and the sums, stand one after another
+  pub place : y .place ≡ placeOf n m + bytesOf (tensorOf n m)
+  pub place-end : y .place + bytesOf (y .output) ≤ n .area
+  pub sums-end : y .sums + sumsOf (y .kind) ≤ n .store
+
+-- the layers of a network after each other
+pub record Taken (s : List ℕ) (n : Network) : Type 0 where
+  pub file-few : length s ≤ 65536
+  pub count-some : 1 ≤ n .count
+  pub count-few : n .count ≤ 16
+  pub sixteen : length (n .layers) ≡ 16
+  pub zero-is : n .zero ≡ byteAt s 7
+  pub shapes : (t : ℕ) → t ≤ n .count → GoodShape (tensorOf n t)
+  pub layers : (m : ℕ) → m < n .count → LayerTaken s n m (layerOf n m)
+  pub first-start : layerOf n 0 .start ≡ 10
+  pub next-start : (m : ℕ) → suc m < n .count → layerOf n (suc m) .start ≡ layerOf n m .start + recordLen (layerOf n m)
+  pub last-end : layerOf n (n .count - 1) .start + recordLen (layerOf n (n .count - 1)) ≡ length s
+  pub first-sums : layerOf n 0 .sums ≡ 0
+  pub next-sums : (m : ℕ) → suc m < n .count → layerOf n (suc m) .sums ≡ layerOf n m .sums + sumsOf (layerOf n m .kind)
+  pub store-end : n .store ≡ layerOf n (n .count - 1) .sums + sumsOf (layerOf n (n .count - 1) .kind)
+  pub area-end : n .area ≡ placeOf n (n .count) + bytesOf (tensorOf n (n .count))
+  pub area-few : n .area ≤ 65536
+  pub store-few : n .store ≤ 65536

@@ -1,0 +1,181 @@
+// The whole file: its length, the head, the layers in order, and that nothing follows.
+ghost use mathlib.Core.Path.{_≡_};
+ghost use Prim.Native.Nat.{_+_, _≤_, _<_, min};
+ghost use lib.ListN.{length};
+ghost use Rattle.records.specs.Shape.{GoodShape};
+ghost use Rattle.records.specs.Layer.{sumsOf};
+ghost use Rattle.network.specs.Network.{tensorOf};
+ghost use Rattle.network.specs.Decode.{CanStep, readLayer, startOf, pushed, stopped, stepOf, endFault, decodedAs, decodeOf};
+use crate::head::head_fault;
+use crate::head::picture_at;
+use crate::net::Network;
+use crate::net::empty_network;
+use crate::net::no_network;
+use crate::net::tensor;
+use records::add::read_add;
+use records::conv::read_conv;
+use records::faults::cut_fault;
+use records::faults::first_of;
+use records::full::read_full;
+use records::layer::Layer;
+use records::layer::Read;
+use records::layer::sums_of;
+use records::mark::Mark;
+use records::mark::fixed_len;
+use records::mark::mark_at;
+use records::shape::bytes_of;
+
+// A file read so far: the refusal number, or 0 with where the next record begins, how many layers there are, and the
+// network of these.
+pub struct Progress {
+    pub refusal: u8,
+    pub at: usize,
+    pub made: usize,
+    pub network: Network,
+}
+
+// The answer: refusal 0 with the network, or the number of the first fault met with a network of no layer.
+pub struct Decoded {
+    pub refusal: u8,
+    pub network: Network,
+}
+
+fn smaller(a: usize, b: usize) -> usize
+    ensures { λ r. ⌜ r ≡ min a b ⌝ }
+{
+    if a < b { a } else { b }
+}
+
+// The record of layer made + 1, which reads tensor made.
+fn read_layer(s: &[u8], at: usize, n: Network, made: usize) -> Read
+    requires { ⌜ at ≤ length (now s) ⌝ }
+    requires { ⌜ (made < 16) × (n .area ≤ 65536) ⌝ }
+    requires { ⌜ GoodShape (tensorOf n made) ⌝ }
+    ensures { λ r. ⌜ r ≡ readLayer (now (s .entry)) at n made ⌝ }
+{
+    let mark = mark_at(s, at);
+    let cut = cut_fault(s, at, fixed_len(mark));
+    if cut != 0 {
+        return Read::Refused(cut);
+    }
+    let input = tensor(n, made);
+    match mark {
+        Mark::CV => read_conv(s, at, input, n.area, n.store),
+        Mark::FU => read_full(s, at, input, n.area, n.store),
+        Mark::AD => {
+            let other = tensor(n, smaller(s[at + 2] as usize, made));
+            read_add(s, at, input, n.area, n.store, made, other)
+        }
+        Mark::Other => Read::Refused(1),
+    }
+}
+
+fn stopped_with(n: u8) -> Progress
+    ensures { λ r. ⌜ r ≡ stopped n ⌝ }
+{
+    let network = no_network();
+    Progress {
+        refusal: n,
+        at: 0,
+        made: 0,
+        network,
+    }
+}
+
+fn start(s: &[u8]) -> Progress
+    ensures { λ r. ⌜ r ≡ startOf (now (s .entry)) ⌝ }
+{
+    let fault = head_fault(s);
+    if fault != 0 {
+        return stopped_with(fault);
+    }
+    let picture = picture_at(s);
+    let area = bytes_of(picture);
+    let network = empty_network(picture, s[7], s[8] as usize, area);
+    Progress {
+        refusal: 0,
+        at: 10,
+        made: 0,
+        network,
+    }
+}
+
+// One more layer.
+fn push(p: Progress, l: Layer, next: usize) -> Progress
+    requires { ⌜ (p .made < 16) × (p .network .area ≤ 65536) × (p .network .store ≤ 65536) ⌝ }
+    requires { ⌜ GoodShape (l .output) × (sumsOf (l .kind) ≤ 256) ⌝ }
+    ensures { λ r. ⌜ r ≡ pushed p l next ⌝ }
+{
+    let mut network = p.network;
+    let made = p.made;
+    let output = l.output;
+    let kind = l.kind;
+    network.area = network.area + bytes_of(output);
+    network.store = network.store + sums_of(kind);
+    network.layers[made] = l;
+    Progress {
+        refusal: 0,
+        at: next,
+        made: made + 1,
+        network,
+    }
+}
+
+// The next layer's record, unless the file is refused already.
+fn step(s: &[u8], p: Progress) -> Progress
+    requires { ⌜ CanStep (now s) p ⌝ }
+    ensures { λ r. ⌜ r ≡ stepOf (now (s .entry)) p ⌝ }
+{
+    if p.refusal != 0 {
+        return p;
+    }
+    let network = p.network;
+    match read_layer(s, p.at, network, p.made) {
+        Read::Refused(n) => stopped_with(n),
+        Read::Found(l, next) => push(p, l, next),
+    }
+}
+
+fn end_fault(s: &[u8], at: usize) -> u8
+    ensures { λ r. ⌜ r ≡ endFault (now (s .entry)) at ⌝ }
+{
+    if at == s.len() { 0 } else { 1 }
+}
+
+fn decoded_as(fault: u8, p: Progress) -> Decoded
+    ensures { λ r. ⌜ r ≡ decodedAs fault p ⌝ }
+{
+    match fault {
+        0 => {
+            let network = p.network;
+            Decoded {
+                refusal: 0,
+                network,
+            }
+        }
+        _ => {
+            let network = no_network();
+            Decoded {
+                refusal: fault,
+                network,
+            }
+        }
+    }
+}
+
+// Tests 1 to 3: the network of the file, or the refusal number.
+pub fn decode(file: &[u8]) -> Decoded
+    ensures { λ r. ⌜ r ≡ decodeOf (now (file .entry)) ⌝ }
+{
+    if file.len() > 65536 {
+        return decoded_as(3, stopped_with(3));
+    }
+    let mut p = start(file);
+    let network = p.network;
+    let mut left = network.count;
+    while 0 < left {
+        p = step(file, p);
+        left -= 1;
+    }
+    decoded_as(first_of(p.refusal, end_fault(file, p.at)), p)
+}
