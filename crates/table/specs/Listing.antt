@@ -18,7 +18,7 @@ use Rattle.network.specs.declared.file.Decoded.{Decoded}
 -- a number in decimal, of at most k digits
 unfoldable pub decimalTo : ℕ → ℕ → List ℕ
 decimalTo zero n = []
-decimalTo (suc k) n = cond (ltb n 10) (48 + n ∷ []) (decimalTo k (n / 10) ++ (48 + n % 10 ∷ []))
+decimalTo (suc k) n = cond (ltb n 10) ((48 + n) ∷ []) (decimalTo k (n / 10) ++ ((48 + n % 10) ∷ []))
 
 -- every number here has at most five digits
 abbrev pub decimal : ℕ → List ℕ

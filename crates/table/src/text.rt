@@ -19,6 +19,7 @@ pub fn put_word(out: &mut [u8], at: usize, word: &[u8]) -> usize
 pub fn put_number(out: &mut [u8], at: usize, n: usize, k: usize) -> usize
     requires { ⌜ (0 < k) × (n < 10 ^ k) × (at + k ≤ length (now out)) ⌝ }
     ensures { λ r. ⌜ (r ≡ at + length (decimalTo k n)) × (now (out .exit) ≡ pasted (now (out .entry)) at (decimalTo k n)) ⌝ }
+    ensures { λ r. ⌜ r ≤ at + k ⌝ }
 {
     if n < 10 {
         out[at] = 48 + n as u8;
@@ -33,6 +34,7 @@ pub fn put_number(out: &mut [u8], at: usize, n: usize, k: usize) -> usize
 pub fn put_column(out: &mut [u8], at: usize, n: usize) -> usize
     requires { ⌜ (n < 100000) × (at + 6 ≤ length (now out)) ⌝ }
     ensures { λ r. ⌜ (r ≡ at + length (column n)) × (now (out .exit) ≡ pasted (now (out .entry)) at (column n)) ⌝ }
+    ensures { λ r. ⌜ r ≤ at + 6 ⌝ }
 {
     out[at] = b' ';
     put_number(out, at + 1, n, 5)
