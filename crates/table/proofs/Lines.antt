@@ -95,13 +95,18 @@ pub table-turns :
     Wrote d start (joined (m + 1) (layerLine n)) r f
 table-turns d start n m h l w x = rw joined-step (wrote-more d start _ _ h w (rw l at x))
 
+-- the text s at the front of d, as e, and how long it is
+abbrev pub Front : List ℕ → List ℕ → ℕ → List ℕ → Type 0
+Front d s r e = (r ≡ length s) × (e ≡ pasted d 0 s)
+
+-- every layer's line is there
 pub table-ends :
     (d : List ℕ) (n : Network) {m first at r : ℕ} {d₁ d₂ d₃ : List ℕ} →
     m ≡ n .count →
     Wrote d 0 heading first d₁ →
     Wrote d₁ first (lineOf 0 pictureWord (n .picture) 0) at d₂ →
     Wrote d₂ at (joined m (layerLine n)) r d₃ →
-    (r ≡ length (tableOf n)) × (d₃ ≡ pasted d 0 (tableOf n))
+    Front d (tableOf n) r d₃
 table-ends d n e w x y =
     let z = rw e at (wrote-more d 0 _ _ (omega arith) (wrote-more d 0 _ _ (omega arith) w x) y) in
     (omega arith, z .1)
@@ -112,28 +117,32 @@ pub decoded-taken : (s : List ℕ) {d : Decoded} → d ≡ decodeOf s → d .ref
 decoded-taken s e h = rw e (taken s (rw e at h))
 
 -- a file that is taken
-pub listed-taken : (s : List ℕ) {d : Decoded} → d ≡ decodeOf s → d .refusal ≡ 0 → tableOf (d .network) ≡ listingOf s
+pub taken-listed :
+    (s out : List ℕ) {d : Decoded} {r : ℕ} {e : List ℕ} →
+    d ≡ decodeOf s →
+    d .refusal ≡ 0 →
+    Front out (tableOf (d .network)) r e →
+    Front out (listingOf s) r e
 unfolding listingOf
-listed-taken s e h = rw (← e, h)
+taken-listed s out l h f = rw (← l, h) f
 
 -- a file that is refused
-pub listed-refused :
-    (s : List ℕ) {d : Decoded} →
+pub refused-listed :
+    (s out : List ℕ) {d : Decoded} {m₁ m₂ m₃ : ℕ} {d₁ d₂ d₃ : List ℕ} →
     d ≡ decodeOf s →
     (d .refusal ≡ 0 → ⊥) →
-    refusedLine (d .refusal) ≡ listingOf s
-unfolding listingOf
-listed-refused s {d} e h = rw (← e) (by-number (d .refusal) h) where
-  by-number : (k : ℕ) → (k ≡ 0 → ⊥) → refusedLine k ≡ listed k (d .network)
-  by-number zero g = absurd (g refl)
-  by-number (suc k) g = refl
-
-pub refused-written :
-    (d : List ℕ) (number : ℕ) {m₁ m₂ m₃ : ℕ} {d₁ d₂ d₃ : List ℕ} →
-    Wrote d 0 (0x72 ∷ 0x65 ∷ 0x66 ∷ 0x75 ∷ 0x73 ∷ 0x65 ∷ 0x64 ∷ []) m₁ d₁ →
-    Wrote d₁ m₁ (column number) m₂ d₂ →
+    Wrote out 0 (0x72 ∷ 0x65 ∷ 0x66 ∷ 0x75 ∷ 0x73 ∷ 0x65 ∷ 0x64 ∷ []) m₁ d₁ →
+    Wrote d₁ m₁ (column (d .refusal)) m₂ d₂ →
     Wrote d₂ m₂ (0x0A ∷ []) m₃ d₃ →
-    (m₃ ≡ length (refusedLine number)) × (d₃ ≡ pasted d 0 (refusedLine number))
-refused-written d number w x y =
-    let z = wrote-more d 0 _ _ (omega arith) (wrote-more d 0 _ _ (omega arith) w x) y in
-    (omega arith, z .1)
+    Front out (listingOf s) m₃ d₃
+unfolding listingOf
+refused-listed s out {d} l h w x y =
+    let z = wrote-more out 0 _ _ (omega arith) (wrote-more out 0 _ _ (omega arith) w x) y in
+    rw (← l) (by-number (d .refusal) h (omega arith, z .1)) where
+  by-number :
+      (k : ℕ) {r : ℕ} {e : List ℕ} →
+      (k ≡ 0 → ⊥) →
+      Front out (refusedLine k) r e →
+      Front out (listed k (d .network)) r e
+  by-number zero g f = absurd (g refl)
+  by-number (suc k) g f = f
