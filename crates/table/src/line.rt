@@ -54,6 +54,7 @@ fn put_table(out: &mut [u8], file: &[u8], n: Network) -> usize
     requires { ⌜ Taken (now file) n ⌝ }
     requires { ⌜ 1024 ≤ length (now out) ⌝ }
     ensures { λ r. ⌜ (r ≡ length (tableOf n)) × (now (out .exit) ≡ pasted (now (out .entry)) 0 (tableOf n)) ⌝ }
+    ensures { λ r. ⌜ r ≤ 1024 ⌝ }
 {
     let picture = n.picture;
     let first = put_word(out, 0, b"tensor kind rows columns channels bytes sums\n");
@@ -74,6 +75,7 @@ fn put_table(out: &mut [u8], file: &[u8], n: Network) -> usize
 pub fn list(file: &[u8], out: &mut [u8]) -> usize
     requires { ⌜ 1024 ≤ length (now out) ⌝ }
     ensures { λ r. ⌜ (r ≡ length (listingOf (now (file .entry)))) × (now (out .exit) ≡ pasted (now (out .entry)) 0 (listingOf (now (file .entry)))) ⌝ }
+    ensures { λ r. ⌜ r ≤ 1024 ⌝ }
 {
     let d = decode(file);
     let network = d.network;

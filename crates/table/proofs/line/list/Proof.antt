@@ -25,7 +25,7 @@ same-length c = search needs
 
 -- src/line.rt:81:9
 returns : tie.Need-returns
-returns c = taken-listed _ _ (c .before .before .before .before .before .before .before .decode .ensures) (c .before .before .before .before .if1 .taken) (c .before .before .put-table .ensures)
+returns c = (taken-listed _ _ (c .before .before .before .before .before .before .before .decode .ensures) (c .before .before .before .before .if1 .taken) (c .before .before .put-table .ensures .0), omega arith)
 
 -- src/line.rt:83:33
 slice-aggregate-put-word : tie.Need-slice-aggregate-put-word
@@ -59,7 +59,7 @@ same-length-2 c = search needs
 returns-2 : tie.Need-returns-2
 returns-2 c =
     let a = c .before .before .before .before .before .before .before .before .before .before .before .before .before .before .before .before .before .before .before .before .before .args in
-    refused-listed (now (a .file)) (now (a .out)) (c .before .before .before .before .before .before .before .before .before .before .before .before .before .before .before .before .before .before .decode .ensures) (c .before .before .before .before .before .before .before .before .before .before .before .before .before .before .before .if1 .left) (c .before .before .before .before .before .before .before .before .before .before .before .before .put-word .ensures) (c .before .before .before .before .before .before .before .put-column .ensures .0) (c .before .before .put-word2 .ensures)
+    (refused-listed (now (a .file)) (now (a .out)) (c .before .before .before .before .before .before .before .before .before .before .before .before .before .before .before .before .before .before .decode .ensures) (c .before .before .before .before .before .before .before .before .before .before .before .before .before .before .before .if1 .left) (c .before .before .before .before .before .before .before .before .before .before .before .before .put-word .ensures) (c .before .before .before .before .before .before .before .put-column .ensures .0) (c .before .before .put-word2 .ensures), omega arith)
 
 pub list-spec : {M : Type 1} → statement M
 list-spec =

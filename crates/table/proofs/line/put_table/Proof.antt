@@ -82,7 +82,7 @@ returns : tie.Need-returns Inv-loop μ-loop
 returns c =
     let i = c .before .loop .inv in
     let p = c .before .before .before .before .put-line .ensures in
-    table-ends (now (c .before .before .before .before .before .before .before .before .before .before .before .before .before .before .before .args .out)) (c .before .before .before .before .before .before .before .before .before .before .before .before .before .before .before .args .n) (omega arith) (c .before .before .before .before .before .before .before .before .before .put-word .ensures) (p .0, p .2) (i .1)
+    (table-ends (now (c .before .before .before .before .before .before .before .before .before .before .before .before .before .before .before .args .out)) (c .before .before .before .before .before .before .before .before .before .before .before .before .before .before .before .args .n) (omega arith) (c .before .before .before .before .before .before .before .before .before .put-word .ensures) (p .0, p .2) (i .1), omega (arith, c .before .before .before .before .before .before .before .before .before .before .before .before .before .before .before .pre .0 .count-few, c .before .before .before .before .before .before .before .before .before .put-word .ensures .0))
 
 pub put-table-spec : {M : Type 1} → statement M
 put-table-spec =
