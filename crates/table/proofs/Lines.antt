@@ -1,7 +1,7 @@
 -- The lines of a listing: each is a chain of texts, and so is the table.
 -- Assumes nothing.
 use mathlib.Core.Path.{_≡_, refl, sym}
-use mathlib.Core.List.{List, [], _∷_, _++_, append-assoc}
+use mathlib.Core.List.{List, [], _∷_, append-assoc}
 use Prim.Native.Nat.{ℕ, zero, suc, _+_, _≤_, _<_}
 use native.Mathlib.Omega.{arith}
 use lib.ListN.{length}
@@ -20,13 +20,15 @@ use Rattle.network.specs.declared.net.Network.{Network}
 use Rattle.network.specs.declared.file.Decoded.{Decoded}
 use Rattle.network.proofs.Taken.{taken}
 use Rattle.table.specs.Listing.{decimal, column, lineOf, wordOf, heading, pictureWord, layerLine, tableOf, refusedLine, listed, listingOf}
-use Rattle.table.proofs.Wrote.{Wrote, wrote-more}
+use Rattle.table.proofs.Wrote.{Wrote, Front, wrote-more, front-three}
 
 -- ---- a line
 
+-- its size can be worked out
 pub small : {s : Shape} → GoodShape s → SmallShape s
 small g = record { rows-small = omega arith; columns-small = omega arith; channels-small = omega arith }
 
+-- the nine texts of a line
 pub line-written :
     (d : List ℕ) (at t : ℕ) (word : List ℕ) (s : Shape) (sums : ℕ)
     {bytes m₁ m₂ m₃ m₄ m₅ m₆ m₇ m₈ m₉ : ℕ} {d₁ d₂ d₃ d₄ d₅ d₆ d₇ d₈ d₉ : List ℕ} →
@@ -69,6 +71,7 @@ line-of-kind d at t s kind w n l = rw (w, ← n) l
 
 -- ---- the table
 
+-- what `put_layer` asks of layer m, which the code has as y
 module _ {s : List ℕ} {n : Network} (t : Taken s n) {m : ℕ} (h : m < n .count) {y : Layer} (e : y ≡ layerOf n m) where
   pub output-good : GoodShape (y .output)
   output-good = rw e (t .shapes (suc m) h)
@@ -95,10 +98,6 @@ pub table-turns :
     Wrote d start (joined (m + 1) (layerLine n)) r f
 table-turns d start n m h l w x = rw joined-step (wrote-more d start _ _ h w (rw l at x))
 
--- the text s at the front of d, as e, and how long it is
-abbrev pub Front : List ℕ → List ℕ → ℕ → List ℕ → Type 0
-Front d s r e = (r ≡ length s) × (e ≡ pasted d 0 s)
-
 -- every layer's line is there
 pub table-ends :
     (d : List ℕ) (n : Network) {m first at r : ℕ} {d₁ d₂ d₃ : List ℕ} →
@@ -107,12 +106,11 @@ pub table-ends :
     Wrote d₁ first (lineOf 0 pictureWord (n .picture) 0) at d₂ →
     Wrote d₂ at (joined m (layerLine n)) r d₃ →
     Front d (tableOf n) r d₃
-table-ends d n e w x y =
-    let z = rw e at (wrote-more d 0 _ _ (omega arith) (wrote-more d 0 _ _ (omega arith) w x) y) in
-    (omega arith, z .1)
+table-ends d n e w x y = rw e at (front-three d _ _ _ w x y)
 
 -- ---- the listing
 
+-- what is known of a file that is taken, of the answer that the code has
 pub decoded-taken : (s : List ℕ) {d : Decoded} → d ≡ decodeOf s → d .refusal ≡ 0 → Taken s (d .network)
 decoded-taken s e h = rw e (taken s (rw e at h))
 
@@ -137,12 +135,11 @@ pub refused-listed :
     Front out (listingOf s) m₃ d₃
 unfolding listingOf
 refused-listed s out {d} l h w x y =
-    let z = wrote-more out 0 _ _ (omega arith) (wrote-more out 0 _ _ (omega arith) w x) y in
-    rw (← l) (by-number (d .refusal) h (omega arith, z .1)) where
-  by-number :
-      (k : ℕ) {r : ℕ} {e : List ℕ} →
-      (k ≡ 0 → ⊥) →
-      Front out (refusedLine k) r e →
-      Front out (listed k (d .network)) r e
-  by-number zero g f = absurd (g refl)
-  by-number (suc k) g f = f
+    rw (← l) (by-number (d .refusal) h (front-three out _ _ _ w x y)) where
+      by-number :
+          (k : ℕ) {r : ℕ} {e : List ℕ} →
+          (k ≡ 0 → ⊥) →
+          Front out (refusedLine k) r e →
+          Front out (listed k (d .network)) r e
+      by-number zero g f = absurd (g refl)
+      by-number (suc k) g f = f

@@ -13,7 +13,6 @@ use Rattle.windows.specs.Lists.{joined}
 use Rattle.network.specs.Network.{layerOf}
 use Rattle.network.specs.Decode.{decodeOf}
 use Rattle.network.specs.declared.net.Network.{Network}
-use Rattle.network.specs.declared.file.Decoded.{Decoded}
 
 -- a number in decimal, of at most k digits
 unfoldable pub decimalTo : ℕ → ℕ → List ℕ

@@ -6,7 +6,7 @@ ghost use Rattle.records.specs.Shape.{GoodShape};
 ghost use Rattle.records.specs.Layer.{sumsOf};
 ghost use Rattle.network.specs.Taken.{Taken};
 ghost use Rattle.windows.specs.Lists.{pasted};
-ghost use Rattle.table.specs.Listing.{lineOf, wordOf, layerLine, tableOf, refusedLine, listingOf};
+ghost use Rattle.table.specs.Listing.{lineOf, wordOf, tableOf, listingOf};
 use crate::text::put_column;
 use crate::text::put_number;
 use crate::text::put_word;

@@ -3,7 +3,7 @@ ghost use mathlib.Core.Path.{_≡_};
 ghost use Prim.Native.Nat.{_+_, _^_, _≤_, _<_};
 ghost use lib.ListN.{length};
 ghost use Rattle.windows.specs.Lists.{pasted};
-ghost use Rattle.table.specs.Listing.{decimalTo, decimal, column};
+ghost use Rattle.table.specs.Listing.{decimalTo, column};
 use windows::write::copy_in;
 
 // Writes a word from `at`, and says where the next one goes.

@@ -1,61 +1,45 @@
+-- `table::line::list` meets its contract.
+-- Assumes nothing.
 use native.Mathlib.Omega.{arith}
 use denote.Ref.{now}
 use borrow.Author.Needs.{needs}
 use Rattle.table.proofs.Lines.{decoded-taken, taken-listed, refused-listed}
 use Rattle.table.proofs.line.list.Statement.{statement}
 use Rattle.table.proofs.line.list.Tie as tie
-use Rattle.table.proofs.line.list.Reads as reads
-use Rattle.table.proofs.line.list.Lts as lts
-use Rattle.network.proofs.file.decode.Reads as decode-reads
-use Rattle.table.proofs.line.put_table.Reads as put-table-reads
-use Rattle.table.proofs.text.put_column.Reads as put-column-reads
-use Rattle.table.proofs.text.put_word.Reads as put-word-reads
 
--- src/line.rt:78:9
 decode-requires : tie.Need-decode-requires
 decode-requires c κs = search needs
 
--- src/line.rt:81:9
 put-table-requires : tie.Need-put-table-requires
 put-table-requires c κs = (decoded-taken _ (c .before .before .before .before .decode .ensures) (c .before .if1 .taken), omega arith)
 
--- src/line.rt:81:9
 same-length : tie.Need-same-length
 same-length c = search needs
 
--- src/line.rt:81:9
 returns : tie.Need-returns
 returns c = (taken-listed _ _ (c .before .before .before .before .before .before .before .decode .ensures) (c .before .before .before .before .if1 .taken) (c .before .before .put-table .ensures .0), omega arith)
 
--- src/line.rt:83:33
 slice-aggregate-put-word : tie.Need-slice-aggregate-put-word
 slice-aggregate-put-word c = search needs
 
--- src/line.rt:83:9
 put-word-requires : tie.Need-put-word-requires
 put-word-requires c κs = search needs
 
--- src/line.rt:84:40
 cast-put-column : tie.Need-cast-put-column
 cast-put-column c = search needs
 
--- src/line.rt:84:9
 put-column-requires : tie.Need-put-column-requires
 put-column-requires c κs = search needs
 
--- src/line.rt:85:27
 slice-aggregate-put-word-2 : tie.Need-slice-aggregate-put-word-2
 slice-aggregate-put-word-2 c = search needs
 
--- src/line.rt:85:5
 put-word-requires-2 : tie.Need-put-word-requires-2
 put-word-requires-2 c κs = search needs
 
--- src/line.rt:74:1
 same-length-2 : tie.Need-same-length-2
 same-length-2 c = search needs
 
--- src/line.rt:74:1
 returns-2 : tie.Need-returns-2
 returns-2 c =
     let a = c .before .before .before .before .before .before .before .before .before .before .before .before .before .before .before .before .before .before .before .before .before .args in

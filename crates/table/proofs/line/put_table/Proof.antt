@@ -1,3 +1,6 @@
+-- `table::line::put_table` meets its contract. The loop's invariant: the lines of the first m layers stand after the picture's.
+-- The measure is how many layers are left.
+-- Assumes nothing.
 use mathlib.Core.Path.{_≡_, refl}
 use Prim.Native.Nat.{_+_, _*_, _-_, _≤_}
 use native.Mathlib.Omega.{arith}
@@ -10,12 +13,6 @@ use Rattle.table.proofs.Wrote.{Wrote}
 use Rattle.table.proofs.Lines.{output-good, sums-few, table-starts, table-turns, table-ends}
 use Rattle.table.proofs.line.put_table.Statement.{statement}
 use Rattle.table.proofs.line.put_table.Tie as tie
-use Rattle.table.proofs.line.put_table.Reads as reads
-use Rattle.table.proofs.line.put_table.Lts as lts
-use Rattle.network.proofs.net.layer.Reads as layer-reads
-use Rattle.table.proofs.line.put_layer.Reads as put-layer-reads
-use Rattle.table.proofs.line.put_line.Reads as put-line-reads
-use Rattle.table.proofs.text.put_word.Reads as put-word-reads
 
 abbrev Inv-loop : tie.InvT-loop
 Inv-loop out₀ file n first at₀ count m₀ out at m =
@@ -24,60 +21,47 @@ Inv-loop out₀ file n first at₀ count m₀ out at m =
 abbrev μ-loop : tie.MeasureT-loop
 μ-loop out₀ file n first at₀ count m₀ out at m = count - m
 
--- src/line.rt:59:34
 slice-aggregate-put-word : tie.Need-slice-aggregate-put-word Inv-loop μ-loop
 slice-aggregate-put-word c = search needs
 
--- src/line.rt:59:9
 put-word-requires : tie.Need-put-word-requires Inv-loop μ-loop
 put-word-requires c κs = search needs
 
--- src/line.rt:60:42
 slice-aggregate-put-line : tie.Need-slice-aggregate-put-line Inv-loop μ-loop
 slice-aggregate-put-line c = search needs
 
--- src/line.rt:60:9
 put-line-requires : tie.Need-put-line-requires Inv-loop μ-loop
 put-line-requires c κs = (c .before .before .before .before .before .before .before .before .before .before .pre .0 .shapes 0 (omega arith), (omega arith, omega arith, omega arith, omega arith))
 
--- src/line.rt:63:5
 loop-holds : tie.Need-loop-holds Inv-loop μ-loop
 loop-holds c = (omega arith, table-starts _ _ _, omega arith, refl)
 
--- src/line.rt:64:13
 layer-requires : tie.Need-layer-requires Inv-loop μ-loop
 layer-requires c κs = search needs
 
--- src/line.rt:67:33
 add-put-layer : tie.Need-add-put-layer Inv-loop μ-loop
 add-put-layer c = omega arith
 
--- src/line.rt:67:9
 put-layer-requires : tie.Need-put-layer-requires Inv-loop μ-loop
 put-layer-requires c κs =
     let t = c .before .before .before .before .before .before .before .before .before .before .before .before .before .before .before .before .before .before .pre .0 in
     (output-good t (omega arith) (c .before .before .layer .ensures), (omega arith, sums-few t (omega arith) (c .before .before .layer .ensures), omega arith))
 
--- src/line.rt:68:9
 add-m : tie.Need-add-m Inv-loop μ-loop
 add-m c = omega (arith, c .before .before .before .before .before .before .before .before .before .before .before .before .before .before .before .before .before .before .before .before .before .pre .0 .count-few)
 
--- src/line.rt:63:5
 loop-less : tie.Need-loop-less Inv-loop μ-loop
 loop-less c = omega arith
 
--- src/line.rt:63:5
 loop-again : tie.Need-loop-again Inv-loop μ-loop
 loop-again c =
     let i = c .before .before .before .before .before .before .before .loop .inv in
     let p = c .before .before .put-layer .ensures in
     (omega arith, table-turns _ _ (c .before .before .before .before .before .before .before .before .before .before .before .before .before .before .before .before .before .before .before .before .before .args .n) (c .before .before .before .before .before .before .before .loop .m) (omega (arith, c .before .before .before .before .before .before .before .before .before .before .before .before .before .before .before .before .before .before .before .before .before .pre .1, c .before .before .before .before .before .before .before .before .before .before .before .before .before .before .before .put-word .ensures .0, c .before .before .before .before .before .before .before .before .before .before .before .before .before .before .out .given, c .before .before .before .before .before .before .before .before .before .out2 .given)) (c .before .before .before .before .before .layer .ensures) (i .1) (p .0, p .2), omega arith, omega (arith, i .3))
 
--- src/line.rt:53:1
 same-length : tie.Need-same-length Inv-loop μ-loop
 same-length c = omega arith
 
--- src/line.rt:53:1
 returns : tie.Need-returns Inv-loop μ-loop
 returns c =
     let i = c .before .loop .inv in
