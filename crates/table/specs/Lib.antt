@@ -1,0 +1,2 @@
+-- What the listing program writes.
+pub mod Listing
