@@ -38,28 +38,18 @@ pub product : (a b k : ℕ) {m n : ℕ} → m ≡ a * b → n ≡ m * k → n �
 product a b k em en = en ∙ ap (λ (x : ℕ). x * k) em
 
 -- the patch that is made of the part of the area begins with the window of the tensor that stands there
-module _
-    (w : Window)
-    (area d : List ℕ)
-    (from p q : ℕ)
-    {n k : ℕ}
-    {patch : List ℕ}
-    (en : n ≡ sizeOf w)
-    (ek : k ≡ termsOf w)
-    (h : from + sizeOf w ≤ length area)
-    (e : patch ≡ pasted d 0 (windowOf w (part area from (from + n - from)) p q)) where
-  tensor : part area from (from + n - from) ≡ part area from (sizeOf w)
-  tensor = cut-is area from n ∙ ap (part area from) en
-
-  window : length (windowOf w (part area from (sizeOf w)) p q) ≡ termsOf w
-  window = window-length w (part area from (sizeOf w)) p q (part-length area from (sizeOf w) h)
-
-  pub patch-is : take k patch ≡ windowOf w (part area from (sizeOf w)) p q
-  patch-is =
-      rw (e, tensor) (part-pasted d (windowOf w (part area from (sizeOf w)) p q) 0 k (window ∙ sym ek) (omega arith))
-
-  pub patch-length : length (take k patch) ≡ termsOf w
-  patch-length = ap length patch-is ∙ window
+pub patch-is :
+    (w : Window) (area d : List ℕ) (from p q : ℕ) {n k : ℕ} {patch : List ℕ} →
+    n ≡ sizeOf w →
+    k ≡ termsOf w →
+    from + sizeOf w ≤ length area →
+    patch ≡ pasted d 0 (windowOf w (part area from (from + n - from)) p q) →
+    take k patch ≡ windowOf w (part area from (sizeOf w)) p q
+patch-is w area d from p q {n} {k} en ek h e =
+    let t = part area from (sizeOf w) in
+    let tensor : part area from (from + n - from) ≡ t = cut-is area from n ∙ ap (part area from) en in
+    let size = window-length w t p q (part-length area from (sizeOf w) h) in
+    rw (e, tensor) (part-pasted d (windowOf w t p q) 0 k (size ∙ sym ek) (omega arith))
 
 -- ---- the places of a row
 
