@@ -60,7 +60,10 @@ slice-reshare-prefix-put-outputs : tie.Need-slice-reshare-prefix-put-outputs
 slice-reshare-prefix-put-outputs c = omega (arith, terms (c .before .before .before .before .before .before .before .before))
 
 -- the front of the patch is the window
-front : (c : tie.After-gather) → let a = c .before .before .before .before .before .before .before .before .before .before .before .before .args in take (c .before .before .before .before .before .before .times2 .result) (c .gather .last .1 .1 .0) ≡ windowOf (a .w) (part (now (a .area)) (a .from) (sizeOf (a .w))) (a .p) (a .q)
+front :
+    (c : tie.After-gather) →
+    let a = c .before .before .before .before .before .before .before .before .before .before .before .before .args in
+    take (c .before .before .before .before .before .before .times2 .result) (c .gather .last .1 .1 .0) ≡ windowOf (a .w) (part (now (a .area)) (a .from) (sizeOf (a .w))) (a .p) (a .q)
 front c =
     let t = c .before .before .before .before in
     let s = t .before .before .before .before .before .before .before .before in
