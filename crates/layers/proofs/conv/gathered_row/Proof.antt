@@ -104,14 +104,19 @@ conv-place-requires : tie.Need-conv-place-requires Inv-loop μ-loop
 conv-place-requires c κs =
     let l = c .before .before in
     let v = l .before .loop .inv in
+    let w = l .before .before .before .before .before .before .before .before .before .window-for in
+    let o = l .before .before .before .before .before .before .before .before .conv-outputs in
     let s = l .before .before .before .before .before .before .before .before .before .before .before .before .before .before in
     let a = s .args in
     let h = s .pre .1 in
-    place-ready (a .y) (a .c) (s .pre .0) (h .0 .0) (a .z) (a .i) (l .before .loop .j) (a .from) (l .before .before .before .before .before .before .before .before .before .window-for .ensures) (l .before .before .before .before .before .before .before .before .conv-outputs .ensures)
-    (h .1 .1 .0) (l .loop-test .taken) (l .before .before .before .before .before .times .ensures .0) (v .1) (omega (arith, v .0, h .1 .0)) (omega (arith, next l, v .2 .same)) (omega (arith, v .3, h .1 .1))
+    place-ready (a .y) (a .c) (s .pre .0) (h .0 .0) (a .z) (a .i) (l .before .loop .j) (a .from) (w .ensures) (o .ensures) (h .1 .1 .0) (l .loop-test .taken) (l .before .before .before .before .before .times .ensures .0)
+    (v .1) (omega (arith, v .0, h .1 .0)) (omega (arith, next l, v .2 .same)) (omega (arith, v .3, h .1 .1))
 
 add-at-2 : tie.Need-add-at-2 Inv-loop μ-loop
-add-at-2 c = let l = c .before .before .before .before .before .before .before in omega (arith, l .before .before .before .before .before .before .before .before .before .before .before .before .before .before .good, next l)
+add-at-2 c =
+    let l = c .before .before .before .before .before .before .before in
+    let s = l .before .before .before .before .before .before .before .before .before .before .before .before .before .before in
+    omega (arith, s .good, next l)
 
 add-q : tie.Need-add-q Inv-loop μ-loop
 add-q c =

@@ -34,8 +34,9 @@ times-requires c κs = omega (arith, c .before .before .before .before .before .
 -- row i is one of the input's
 row : (s : tie.Start Inv-loop μ-loop) → s .args .i < s .args .y .input .rows
 row s =
-    let e = plain-rows (s .args .y) (s .args .c) (s .pre .0) (s .pre .1 .0 .0) (s .pre .1 .1 .1 .1 .0) (s .pre .1 .1 .1 .1 .2) in
-    rw e at (s .pre .1 .1 .1 .0)
+    let h = s .pre .1 in
+    let e = plain-rows (s .args .y) (s .args .c) (s .pre .0) (h .0 .0) (h .1 .1 .1 .0) (h .1 .1 .1 .2) in
+    rw e at (h .1 .1 .0)
 
 times-requires-2 : tie.Need-times-requires-2 Inv-loop μ-loop
 times-requires-2 c κs =
@@ -54,9 +55,8 @@ inside c =
 
 add-start : tie.Need-add-start Inv-loop μ-loop
 add-start c =
-    let t = c in
-    let s = t .before .before .before .before .before .before .before in
-    omega (arith, s .pre .1 .1 .0, s .good, inside t)
+    let s = c .before .before .before .before .before .before .before in
+    omega (arith, s .pre .1 .1 .0, s .good, inside c)
 
 -- the output has the input's columns, and the filters for its channels
 shape :
@@ -138,10 +138,16 @@ put-within-requires c κs =
     (plain-ready (a .y) (a .c) (s .pre .0) (a .z) (one .0) (one .1) (l .before .before .before .before .before .before .before .before .conv-outputs .ensures), (omega (arith, s .pre .1 .1 .0, v .1), omega (arith, v .2 .same)))
 
 add-start-2 : tie.Need-add-start-2 Inv-loop μ-loop
-add-start-2 c = let l = c .before .before .before .before in omega (arith, l .before .before .before .before .before .before .before .before .before .before .before .before .pre .1 .1 .0, l .before .before .before .before .before .before .before .before .before .before .before .before .good, next l)
+add-start-2 c =
+    let l = c .before .before .before .before in
+    let s = l .before .before .before .before .before .before .before .before .before .before .before .before in
+    omega (arith, s .pre .1 .1 .0, s .good, next l)
 
 add-at-2 : tie.Need-add-at-2 Inv-loop μ-loop
-add-at-2 c = let l = c .before .before .before .before in omega (arith, l .before .before .before .before .before .before .before .before .before .before .before .before .good, next l)
+add-at-2 c =
+    let l = c .before .before .before .before in
+    let s = l .before .before .before .before .before .before .before .before .before .before .before .before in
+    omega (arith, s .good, next l)
 
 add-j : tie.Need-add-j Inv-loop μ-loop
 add-j c = omega arith
