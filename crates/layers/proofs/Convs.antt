@@ -27,39 +27,30 @@ use Rattle.layers.proofs.Totals.{ready-any, outputs-length}
 
 -- ---- a window that is gathered
 
--- the cells of a tensor, and the taps of a kernel
+-- the cells of a tensor, and those of a kernel
 pub cells-few : (w : Window) → Sound w → w .rows * w .columns ≤ 16384
 cells-few w s = omega (arith, s .size, mul-le-mul-left (w .rows * w .columns) (s .channels-some))
 
 pub taps-few : (w : Window) → Sound w → w .height * w .width ≤ 49
 taps-few w s = mul-most (w .height) (w .width) 7 7 (s .height) (s .width)
 
+-- a product of three numbers, as the code makes it
 pub product : (a b k : ℕ) {m n : ℕ} → m ≡ a * b → n ≡ m * k → n ≡ a * b * k
 product a b k em en = en ∙ ap (λ (x : ℕ). x * k) em
 
 -- the patch that is made of the part of the area begins with the window of the tensor that stands there
-module _
-    (w : Window)
-    (area d : List ℕ)
-    (from p q : ℕ)
-    {n k : ℕ}
-    {patch : List ℕ}
-    (en : n ≡ sizeOf w)
-    (ek : k ≡ termsOf w)
-    (h : from + sizeOf w ≤ length area)
-    (e : patch ≡ pasted d 0 (windowOf w (part area from (from + n - from)) p q)) where
-  tensor : part area from (from + n - from) ≡ part area from (sizeOf w)
-  tensor = cut-is area from n ∙ ap (part area from) en
-
-  window : length (windowOf w (part area from (sizeOf w)) p q) ≡ termsOf w
-  window = window-length w (part area from (sizeOf w)) p q (part-length area from (sizeOf w) h)
-
-  pub patch-is : take k patch ≡ windowOf w (part area from (sizeOf w)) p q
-  patch-is =
-      rw (e, tensor) (part-pasted d (windowOf w (part area from (sizeOf w)) p q) 0 k (window ∙ sym ek) (omega arith))
-
-  pub patch-length : length (take k patch) ≡ termsOf w
-  patch-length = ap length patch-is ∙ window
+pub patch-is :
+    (w : Window) (area d : List ℕ) (from p q : ℕ) {n k : ℕ} {patch : List ℕ} →
+    n ≡ sizeOf w →
+    k ≡ termsOf w →
+    from + sizeOf w ≤ length area →
+    patch ≡ pasted d 0 (windowOf w (part area from (from + n - from)) p q) →
+    take k patch ≡ windowOf w (part area from (sizeOf w)) p q
+patch-is w area d from p q {n} {k} en ek h e =
+    let t = part area from (sizeOf w) in
+    let tensor : part area from (from + n - from) ≡ t = cut-is area from n ∙ ap (part area from) en in
+    let size = window-length w t p q (part-length area from (sizeOf w) h) in
+    rw (e, tensor) (part-pasted d (windowOf w t p q) 0 k (size ∙ sym ek) (omega arith))
 
 -- ---- the places of a row
 
@@ -77,10 +68,7 @@ unfolding bytesOf
 size-is y c z e = ap sizeOf e
 
 module _ (y : Layer) (c : Conv) {file sums : List ℕ} (r : ConvReady y c file sums) where
-  pub filters-are : y .output .channels ≡ c .filters
-  unfolding convOutput
-  filters-are = ap (λ (s : Shape). s .channels) (r .output)
-
+  -- the sides of its output
   rows-are : y .output .rows ≡ (y .input .rows + 2 * c .padding - c .height) / c .stride + 1
   unfolding convOutput
   rows-are = ap (λ (s : Shape). s .rows) (r .output)
@@ -96,18 +84,21 @@ module _ (y : Layer) (c : Conv) {file sums : List ℕ} (r : ConvReady y c file s
       rw (eo, ← n) (ready-any (convOutputs y c 0) z _ (r .outputs))
 
   module _ (g : GoodShape (y .input)) where
+    -- where the windows of row i and of column j begin
     pub row-at : (i : ℕ) → i < y .output .rows → i * c .stride ≤ 131072
     row-at i h = omega (arith, stride-in i _ _ (c .stride) rows-are h)
 
     pub column-at : (j : ℕ) → j < y .output .columns → j * c .stride ≤ y .input .columns + c .padding
     column-at j h = omega (arith, stride-in j _ _ (c .stride) columns-are h)
 
+    -- a kernel of one cell with stride 1 keeps both sides
     pub plain-rows : c .height ≡ 1 → c .stride ≡ 1 → y .output .rows ≡ y .input .rows
     plain-rows eh es = rows-are ∙ plain-side (y .input .rows) (c .padding) (c .height) (c .stride) (g .rows-some) (r .ok .padding-rows) eh es
 
     pub plain-columns : c .width ≡ 1 → c .stride ≡ 1 → y .output .columns ≡ y .input .columns
     plain-columns ew es = columns-are ∙ plain-side (y .input .columns) (c .padding) (c .width) (c .stride) (g .columns-some) (r .ok .padding-columns) ew es
 
+    -- the window's numbers are in their bounds
     window-sound : (z : ℕ) → Sound (windowFor y c z)
     unfolding bytesOf
     window-sound z = record {
@@ -124,7 +115,7 @@ module _ (y : Layer) (c : Conv) {file sums : List ℕ} (r : ConvReady y c file s
 
     -- what the function `conv_place` requires at place j of row i
     pub place-ready :
-        (z i j from : ℕ) {w : Window} {o : Outputs} {at p q room patch : ℕ} →
+        (z i j from : ℕ) {w : Window} {o : Outputs} {at p q size patch : ℕ} →
         w ≡ windowFor y c z →
         o ≡ convOutputs y c z →
         i < y .output .rows →
@@ -132,11 +123,11 @@ module _ (y : Layer) (c : Conv) {file sums : List ℕ} (r : ConvReady y c file s
         p ≡ i * c .stride →
         q ≡ j * c .stride →
         from + bytesOf (y .input) ≤ at →
-        at + o .count ≤ room →
+        at + o .count ≤ size →
         12544 ≤ patch →
         Sound w ×
         (OutputsReady o (termsOf w) file sums ×
-        (((from + sizeOf w ≤ at) × (at + o .count ≤ room)) × ((q ≤ w .columns + w .left) × (p ≤ 131072) × (termsOf w ≤ patch))))
+        (((from + sizeOf w ≤ at) × (at + o .count ≤ size)) × ((q ≤ w .columns + w .left) × (p ≤ 131072) × (termsOf w ≤ patch))))
     unfolding bytesOf
     place-ready z i j from ew eo hi hj ep eq hf hr hp =
         let sound = window-sound z in
@@ -182,7 +173,7 @@ plain-turn o file sums area n m from at j {a} {s} {area₁} hf ha hj ea es l e =
     (e ∙ ap (λ (t : List ℕ). pasted area₁ a (outputsOf o file sums t)) (laid-before n _ area at s m (room j n m from es hj hf) ha l ∙ ap (λ (x : ℕ). part area x m) es))
 
 module _ (y : Layer) (c : Conv) (z : ℕ) (file sums area : List ℕ) (from i : ℕ) where
-  -- the row's places, as the code works them out
+  -- the row whose places are gathered
   pub conv-done :
       {w : Window} {o : Outputs} {p skip line : ℕ} {area′ : List ℕ} →
       w ≡ windowFor y c z →
@@ -195,6 +186,7 @@ module _ (y : Layer) (c : Conv) (z : ℕ) (file sums area : List ℕ) (from i : 
   unfolding convRow bytesOf
   conv-done ew eo ep el es e = e ∙ rw (es, el, ep, eo, ew)
 
+  -- the row of a kernel of one cell with stride 1
   pub plain-done :
       {o : Outputs} {skip line skip′ line′ : ℕ} {area′ : List ℕ} →
       ConvReady y c file sums →
@@ -211,7 +203,8 @@ module _ (y : Layer) (c : Conv) (z : ℕ) (file sums area : List ℕ) (from i : 
   unfolding convRow bytesOf
   plain-done {o} {skip} {line} {skip′} {line′} r g hi (eh, ew, es) eo el ek el′ ek′ e =
       let columns = plain-columns y c r g ew es in
-      e ∙ ap (pasted area (y .place + skip′)) (joined-same (y .input .columns) (λ k h. ap₂ (λ (u : Outputs) (q : List ℕ). outputsOf u file sums q) eo (place k h))) ∙ rw (ek′, el′, columns)
+      let outputs : Outputs → List ℕ → List ℕ = λ u q. outputsOf u file sums q in
+      e ∙ ap (pasted area (y .place + skip′)) (joined-same (y .input .columns) (λ k h. ap₂ outputs eo (place k h))) ∙ rw (ek′, el′, columns)
     where
       place :
           (k : ℕ) →
@@ -221,9 +214,12 @@ module _ (y : Layer) (c : Conv) (z : ℕ) (file sums area : List ℕ) (from i : 
       place k h =
           let n = y .input .channels in
           let cell = (i * y .input .columns + k) * n in
-          let inside : cell + n ≤ bytesOf (y .input) = omega (arith, row-in (y .input) i (rw (plain-rows y c r g eh es) at hi), mul-le-mul-right {m = k + 1} {n = y .input .columns} n (omega arith)) in
+          let input : i < y .input .rows = rw (plain-rows y c r g eh es) at hi in
+          let inside : cell + n ≤ bytesOf (y .input) =
+          omega (arith, row-in (y .input) i input, mul-le-mul-right {m = k + 1} {n = y .input .columns} n (omega arith)) in
           let there : from + skip + k * n ≡ from + cell = omega (arith, ek ∙ ap (λ (l : ℕ). i * l) el) in
           let row : i * c .stride ≡ i = rw es (omega arith) in
           let column : k * c .stride ≡ k = rw es (omega arith) in
-          rw (there, row, column, window-plain (windowFor y c z) (tensorAt area from (y .input)) i k eh ew (omega (arith, r .ok .padding-rows)) (omega (arith, r .ok .padding-columns)) (rw (plain-rows y c r g eh es) at hi) h)
+          let none : c .padding ≡ 0 = omega (arith, r .ok .padding-rows) in
+          rw (there, row, column, window-plain (windowFor y c z) (tensorAt area from (y .input)) i k eh ew none none input h)
           (sym (part-part area from (bytesOf (y .input)) cell n inside))

@@ -14,6 +14,7 @@ use Rattle.windows.proofs.Pasted.{part-length, part-before, pasted-nil, joined-
 pub part-at : (d : List ℕ) (at n i : ℕ) → i < n → getD (part d at n) i 0 ≡ getD d (at + i) 0
 part-at d at n i h = rw (getD-take, getD-drop)
 
+-- d′ is d with the first k of the parts from `at`
 pub record Laid (n : ℕ) (f : ℕ → List ℕ) (d : List ℕ) (at : ℕ) (d′ : List ℕ) (k : ℕ) : Type 0 where
   pub few : k ≤ n
   pub is : d′ ≡ pasted d at (joined k f)

@@ -1,4 +1,4 @@
--- The rows of a tensor.
+-- The rows of a tensor, and those that a layer of each kind makes.
 -- Assumes nothing.
 use mathlib.Core.Path.{_≡_, refl, sym, ap, ap₂, subst, _∙_}
 use mathlib.Core.List.{List, [], _∷_}
@@ -10,6 +10,7 @@ use Rattle.records.specs.Shape.{bytesOf, rowBytes}
 use Rattle.records.specs.Conv.{convOutput}
 use Rattle.records.specs.Full.{fullOutput}
 use Rattle.records.specs.declared.shape.Shape.{Shape}
+use Rattle.records.specs.declared.conv.Conv.{Conv}
 use Rattle.records.specs.declared.full.Full.{Full}
 use Rattle.records.specs.declared.add.Add.{Add}
 use Rattle.records.specs.declared.layer.Kind.{Kind}
@@ -20,7 +21,7 @@ use Rattle.windows.proofs.Pasted.{joined-length, joined-same}
 use Rattle.layers.specs.Conv.{convOutputs, convRow}
 use Rattle.layers.specs.Full.{fullOutputs}
 use Rattle.layers.specs.Add.{addByte, addRow}
-use Rattle.layers.specs.Row.{tensorAt, rowBy, rowOf, KindReady, Ready}
+use Rattle.layers.specs.Row.{tensorAt, rowBy, rowOf, ConvReady, KindReady, Ready}
 use Rattle.layers.proofs.Laid.{Laid, part-at, laid-more, laid-before}
 use Rattle.layers.proofs.Totals.{outputs-length}
 
@@ -33,15 +34,20 @@ row-in s i h = omega (arith, mul-le-mul-right {m = i + 1} {n = s .rows} (rowByte
 pub row-skip : (s : Shape) (i : ℕ) {w skip : ℕ} → i < s .rows → w ≡ rowBytes s → skip ≡ i * w → skip + w ≤ bytesOf s
 row-skip s i h ew es = omega (arith, es ∙ ap (λ (m : ℕ). i * m) ew, row-in s i h)
 
+-- a convolution's output has a channel for each filter
+pub filters-are : (y : Layer) (c : Conv) {file sums : List ℕ} → ConvReady y c file sums → y .output .channels ≡ c .filters
+unfolding convOutput
+filters-are y c r = ap (λ (s : Shape). s .channels) (r .output)
+
 -- every row that a layer makes has the bytes of a row of its output
-length-by :
+pub length-by :
     (kind : Kind) (y : Layer) (z z′ : ℕ) (file sums t t′ : List ℕ) (i : ℕ) →
     KindReady kind y file sums →
     length (rowBy kind y z z′ file sums t t′ i) ≡ rowBytes (y .output)
-unfolding convRow convOutput fullOutput addRow
+unfolding convRow fullOutput addRow
 length-by (Convolution c) y z z′ file sums t t′ i r =
     joined-length (y .output .columns) (c .filters) _ (λ j. outputs-length (convOutputs y c z) file sums _) ∙
-    ap (λ (n : ℕ). y .output .columns * n) (sym (ap (λ (s : Shape). s .channels) (r .output)))
+    ap (λ (n : ℕ). y .output .columns * n) (sym (filters-are y c r))
 length-by (Fully f) y z z′ file sums t t′ i r = outputs-length (fullOutputs y f z) file sums t ∙ sym (ap rowBytes (r .output) ∙ omega arith)
 length-by (Addition a) y z z′ file sums t t′ i r = joined-length (rowBytes (y .output)) 1 _ (λ k. refl) ∙ mul-one (rowBytes (y .output))
 
@@ -75,8 +81,6 @@ module _ (y : Layer) (z z′ : ℕ) (file sums : List ℕ) (from other : ℕ) wh
       rw steps
       (laid-more (end - first) _ area at w (i - first) (λ k. length-by (y .kind) y z z′ file sums _ _ _ (r .kind)) inside (omega arith) place l
       (e ∙ cc (t, t′, row)) same)
-
--- ---- the rows of each kind
 
 -- what a layer needs, and its rows, by its kind
 module _ (y : Layer) (kind : Kind) (e : y .kind ≡ kind) where

@@ -11,13 +11,13 @@ use Rattle.numbers.specs.Rescale.{rescaled}
 use Rattle.numbers.specs.Finish.{finished}
 use Rattle.numbers.proofs.Totals.{sums, within}
 use Rattle.records.specs.Bytes.{i32At}
-use Rattle.windows.specs.Lists.{joined}
 use Rattle.windows.proofs.Bytes.{Bytes}
 use Rattle.windows.proofs.Pasted.{joined-length}
 use Rattle.layers.specs.Outputs.{weightsOf, outputOf, outputsOf, OutputsReady}
 use Rattle.layers.specs.declared.outputs.Outputs.{Outputs}
 
 module _ (b : ℤ) (q w : List ℕ) (t z v : ℕ) {b′ : ℤ} {products bytes : ℕ} (eb : b′ ≡ b) (ep : products ≡ dot q w) (es : bytes ≡ sum q) where
+  -- what the function `total` gives
   pub total-is : totalFrom b′ products bytes t (length q) z v ≡ totalOf b q w t z v
   total-is = rw (eb, ep, es)
 
@@ -73,6 +73,7 @@ module _ (o : Outputs) (file sums q : List ℕ) where
   unfolding outputOf
   output-is f eb ew er = rw (er, eb, ew)
 
+  -- a byte for each filter or output
   pub outputs-length : length (outputsOf o file sums q) ≡ o .count
   unfolding outputsOf
   outputs-length = joined-length (o .count) 1 (λ f. outputOf o file sums q f ∷ []) (λ f. refl) ∙ mul-one (o .count)

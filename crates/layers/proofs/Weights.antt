@@ -13,10 +13,7 @@ use Rattle.records.specs.declared.layer.Layer.{Layer}
 use Rattle.windows.specs.Lists.{joined, part}
 use Rattle.layers.specs.Sums.{layerSums}
 
-module _ (y : Layer) where
-  pub conv-terms : (c : Conv) {m n : ℕ} → y .kind ≡ Convolution c → m ≡ c .height * c .width → n ≡ m * y .input .channels → n ≡ termsOf (y .kind) (y .input)
-  conv-terms c e em en = rw (e, en, em)
-
+  -- an add's record has no weights after its 22 bytes
   pub add-weights : (a : Add) → y .kind ≡ Addition a → y .start + 22 ≡ weightsAt y
   add-weights a e = rw e (omega arith)
 

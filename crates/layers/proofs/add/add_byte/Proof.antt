@@ -23,12 +23,14 @@ lift-requires-2 c κs = search needs
 -- the two offsets, as the machine hands them on
 first :
     (c : tie.After-lift) →
-    toZ w32 (ofZ w32 (c .lift .result)) ≡ offset (c .before .args .q) (c .before .args .z) (c .before .args .a .first .multiplier) (c .before .args .a .first .shift)
+    let a = c .before .args in
+    toZ w32 (ofZ w32 (c .lift .result)) ≡ offset (a .q) (a .z) (a .a .first .multiplier) (a .a .first .shift)
 first c = toZ-ofZ w32 _ (sfits-of (c .lift .ok)) ∙ c .lift .ensures
 
 second :
     (c : tie.After-lift2) →
-    toZ w32 (ofZ w32 (c .lift2 .result)) ≡ offset (c .before .before .args .r) (c .before .before .args .zr) (c .before .before .args .a .second .multiplier) (c .before .before .args .a .second .shift)
+    let a = c .before .before .args in
+    toZ w32 (ofZ w32 (c .lift2 .result)) ≡ offset (a .r) (a .zr) (a .a .second .multiplier) (a .a .second .shift)
 second c = toZ-ofZ w32 _ (sfits-of (c .lift2 .ok)) ∙ c .lift2 .ensures
 
 sum-requires : tie.Need-sum-requires

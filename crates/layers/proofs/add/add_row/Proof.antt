@@ -1,15 +1,13 @@
 -- `layers::add::add_row` meets its contract. The loop's invariant: k bytes of the row are laid from its place, which both tensors stand before.
 -- Assumes nothing.
-use mathlib.Core.Path.{_≡_, ap, ap₂, _∙_}
-use mathlib.Core.List.{List, [], _∷_}
-use Prim.Native.Nat.{ℕ, _+_, _*_, _-_, _≤_}
+use mathlib.Core.Path.{_≡_, ap₂, _∙_}
+use mathlib.Core.List.{[], _∷_}
+use Prim.Native.Nat.{ℕ, _+_, _-_, _≤_}
 use native.Mathlib.Omega.{arith}
 use denote.Ref.{now}
-use lib.ListN.{length, getD}
+use lib.ListN.{getD}
 use Rattle.records.specs.Shape.{bytesOf, GoodShape, rowBytes}
-use Rattle.windows.specs.Lists.{pasted, part}
-use Rattle.layers.specs.Add.{addByte, addRow}
-use Rattle.layers.specs.Row.{tensorAt}
+use Rattle.layers.specs.Add.{addByte}
 use Rattle.layers.proofs.Laid.{Laid, laid-none, laid-store, laid-done, laid-at}
 use Rattle.layers.proofs.Rows.{row-in, row-skip, add-done}
 use Rattle.layers.proofs.add.add_row.Statement.{statement}
@@ -30,12 +28,16 @@ times-requires : tie.Need-times-requires Inv-loop μ-loop
 times-requires c κs = omega (arith, good (c .before .before))
 
 times-requires-2 : tie.Need-times-requires-2 Inv-loop μ-loop
-times-requires-2 c κs = let s = c .before .before .before in omega (arith, good s, row-in (s .args .y .output) (s .args .i) (s .pre .1 .1 .1))
+times-requires-2 c κs =
+    let s = c .before .before .before in
+    omega (arith, good s, row-in (s .args .y .output) (s .args .i) (s .pre .1 .1 .1))
 
 -- the row stands in each tensor
 inside :
     (c : tie.After-times2 Inv-loop μ-loop) →
-    (c .times2 .result + c .before .times .result ≤ bytesOf (c .before .before .before .before .args .y .input)) × (c .times2 .result + c .before .times .result ≤ bytesOf (c .before .before .before .before .args .y .output))
+    let y = c .before .before .before .before .args .y in
+    let n = c .times2 .result + c .before .times .result in
+    (n ≤ bytesOf (y .input)) × (n ≤ bytesOf (y .output))
 inside c =
     let s = c .before .before .before .before in
     let h = row-skip (s .args .y .output) (s .args .i) (s .pre .1 .1 .1) (c .before .times .ensures .0) (c .times2 .ensures .0) in
@@ -83,8 +85,10 @@ loop-less c = omega arith
 -- a byte of a tensor is as it was
 kept :
     (c : tie.In-loop Inv-loop μ-loop) (from : ℕ) →
-    from + bytesOf (c .before .before .before .before .before .before .before .args .y .input) ≤ c .before .before .before .before .before .before .before .args .y .place →
-    getD (c .before .loop .area) (from + c .before .before .before .times2 .result + c .before .loop .k) 0 ≡ getD (now (c .before .before .before .before .before .before .before .args .area)) (from + c .before .before .before .times2 .result + c .before .loop .k) 0
+    let a = c .before .before .before .before .before .before .before .args in
+    let at = from + c .before .before .before .times2 .result + c .before .loop .k in
+    from + bytesOf (a .y .input) ≤ a .y .place →
+    getD (c .before .loop .area) at 0 ≡ getD (now (a .area)) at 0
 kept c from h =
     let t = c .before .before .before in
     let a = t .before .before .before .before .args in

@@ -6,11 +6,14 @@ use Prim.Native.Nat.{ℕ}
 use native.Mathlib.Omega.{arith}
 use borrow.Author.Needs.{needs}
 use denote.Ref.{now}
-use Rattle.windows.specs.Lists.{pasted}
-use Rattle.windows.specs.Window.{sizeOf, termsOf}
+use lib.ListN.{length, take}
+use Rattle.windows.specs.Lists.{pasted, part}
+use Rattle.windows.specs.Window.{sizeOf, termsOf, windowOf}
+use Rattle.windows.proofs.Pasted.{part-length}
+use Rattle.windows.proofs.Windows.{window-length}
 use Rattle.layers.specs.Outputs.{outputsOf}
 use Rattle.layers.proofs.Laid.{cut-length}
-use Rattle.layers.proofs.Convs.{cells-few, taps-few, product, patch-is, patch-length}
+use Rattle.layers.proofs.Convs.{cells-few, taps-few, product, patch-is}
 use Rattle.layers.proofs.conv.conv_place.Statement.{statement}
 use Rattle.layers.proofs.conv.conv_place.Tie as tie
 
@@ -47,26 +50,37 @@ part-gather-end c = omega (arith, size (c .before))
 
 gather-requires : tie.Need-gather-requires
 gather-requires c κs =
-    let s = c .before .before .before .before .before .before .before .before .before .before .before in
-    let e = size (c .before .before .before) in
-    (s .pre .0, ((cut-length (now (s .args .area)) (s .args .from) (c .before .before .before .times4 .result) (omega arith) ∙ e, s .pre .1 .1 .1 .0, s .pre .1 .1 .1 .1), s .pre .1 .1 .1 .2))
+    let t = c .before .before .before in
+    let s = t .before .before .before .before .before .before .before .before in
+    let a = s .args in
+    let e = size t in
+    (s .pre .0, ((cut-length (now (a .area)) (a .from) (t .times4 .result) (omega arith) ∙ e, omega (arith, s .pre .1 .1 .1), omega (arith, s .pre .0, s .pre .1 .1 .1)), s .pre .1 .1 .1 .2))
 
 slice-reshare-prefix-put-outputs : tie.Need-slice-reshare-prefix-put-outputs
 slice-reshare-prefix-put-outputs c = omega (arith, terms (c .before .before .before .before .before .before .before .before))
 
-slice-aggregate-put-outputs : tie.Need-slice-aggregate-put-outputs
-slice-aggregate-put-outputs c =
-    let s = c .before .before .before .before .before .before .before .before .before .before .before .before .before .before .before in
+-- the front of the patch is the window
+front :
+    (c : tie.After-gather) →
+    let a = c .before .before .before .before .before .before .before .before .before .before .before .before .args in
+    take (c .before .before .before .before .before .before .times2 .result) (c .gather .last .1 .1 .0) ≡ windowOf (a .w) (part (now (a .area)) (a .from) (sizeOf (a .w))) (a .p) (a .q)
+front c =
+    let t = c .before .before .before .before in
+    let s = t .before .before .before .before .before .before .before .before in
     let a = s .args in
-    let k = terms (c .before .before .before .before .before .before .before .before .before) in
-    k ∙ sym (patch-length (a .w) (now (a .area)) (now (a .patch)) (a .from) (a .p) (a .q) (size (c .before .before .before .before .before .before .before)) k (omega (arith, s .pre .1 .1 .0)) (c .before .before .before .gather .ensures))
+    patch-is (a .w) (now (a .area)) (now (a .patch)) (a .from) (a .p) (a .q) (size t) (terms (t .before .before)) (omega (arith, s .pre .1 .1 .0)) (c .gather .ensures)
+
+front-length : (c : tie.After-gather) → length (take (c .before .before .before .before .before .before .times2 .result) (c .gather .last .1 .1 .0)) ≡ termsOf (c .before .before .before .before .before .before .before .before .before .before .before .before .args .w)
+front-length c =
+    let s = c .before .before .before .before .before .before .before .before .before .before .before .before in
+    let a = s .args in
+    ap length (front c) ∙ window-length (a .w) _ (a .p) (a .q) (part-length (now (a .area)) (a .from) (sizeOf (a .w)) (omega (arith, s .pre .1 .1 .0)))
+
+slice-aggregate-put-outputs : tie.Need-slice-aggregate-put-outputs
+slice-aggregate-put-outputs c = terms (c .before .before .before .before .before .before .before .before .before) ∙ sym (front-length (c .before .before .before))
 
 put-outputs-requires : tie.Need-put-outputs-requires
-put-outputs-requires c κs =
-    let s = c .before .before .before .before .before .before .before .before .before .before .before .before .before .before .before .before in
-    let a = s .args in
-    let e = patch-length (a .w) (now (a .area)) (now (a .patch)) (a .from) (a .p) (a .q) (size (c .before .before .before .before .before .before .before .before)) (terms (c .before .before .before .before .before .before .before .before .before .before)) (omega (arith, s .pre .1 .1 .0)) (c .before .before .before .before .gather .ensures) in
-    (rw e (s .pre .1 .0), s .pre .1 .1 .0 .1)
+put-outputs-requires c κs = let s = c .before .before .before .before .before .before .before .before .before .before .before .before .before .before .before .before in (rw (front-length (c .before .before .before .before)) (s .pre .1 .0), s .pre .1 .1 .0 .1)
 
 same-length : tie.Need-same-length
 same-length c = search needs
@@ -76,11 +90,10 @@ same-length-2 c = search needs
 
 returns : tie.Need-returns
 returns c =
-    let s = c .before .before .before .before .before .before .before .before .before .before .before .before .before .before .before .before .before .before .before in
-    let a = s .args in
+    let g = c .before .before .before .before .before .before .before in
+    let a = g .before .before .before .before .before .before .before .before .before .before .before .before .args in
     c .before .before .put-outputs .ensures ∙
-    ap (λ (q : List ℕ). pasted (now (a .area)) (a .at) (outputsOf (a .o) (now (a .file)) (now (a .sums)) q))
-    (patch-is (a .w) (now (a .area)) (now (a .patch)) (a .from) (a .p) (a .q) (size (c .before .before .before .before .before .before .before .before .before .before .before)) (terms (c .before .before .before .before .before .before .before .before .before .before .before .before .before)) (omega (arith, s .pre .1 .1 .0)) (c .before .before .before .before .before .before .before .gather .ensures))
+    ap (λ (q : List ℕ). pasted (now (a .area)) (a .at) (outputsOf (a .o) (now (a .file)) (now (a .sums)) q)) (front g)
 
 pub conv-place-spec : {M : Type 1} → statement M
 conv-place-spec =

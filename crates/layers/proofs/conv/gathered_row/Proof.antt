@@ -10,9 +10,9 @@ use Rattle.windows.specs.Lists.{part}
 use Rattle.windows.specs.Window.{sizeOf, windowOf}
 use Rattle.layers.specs.Outputs.{outputsOf}
 use Rattle.layers.specs.declared.outputs.Outputs.{Outputs}
-use Rattle.layers.proofs.Convs.{size-is, filters-are, column-at, place-ready, place-turn, conv-done}
+use Rattle.layers.proofs.Convs.{size-is, column-at, place-ready, place-turn, conv-done}
 use Rattle.layers.proofs.Laid.{Laid, room, laid-none, laid-done}
-use Rattle.layers.proofs.Rows.{row-in, row-skip}
+use Rattle.layers.proofs.Rows.{filters-are, row-in, row-skip}
 use Rattle.layers.proofs.conv.gathered_row.Statement.{statement}
 use Rattle.layers.proofs.conv.gathered_row.Tie as tie
 
@@ -39,31 +39,58 @@ times-requires : tie.Need-times-requires Inv-loop μ-loop
 times-requires c κs = let s = c .before .before .before .before .before .before .before .before in omega (arith, s .pre .0 .ok, s .pre .1)
 
 -- the filters are the output's channels
-filters : (c : tie.After-conv-outputs Inv-loop μ-loop) → c .conv-outputs .result .count ≡ c .before .before .before .before .before .before .args .y .output .channels
-filters c = let s = c .before .before .before .before .before .before in ap (λ (o : Outputs). o .count) (c .conv-outputs .ensures) ∙ sym (filters-are (s .args .y) (s .args .c) (s .pre .0))
+filters :
+    (c : tie.After-conv-outputs Inv-loop μ-loop) →
+    let y = c .before .before .before .before .before .before .args .y in
+    c .conv-outputs .result .count ≡ y .output .channels
+filters c =
+    let s = c .before .before .before .before .before .before in
+    ap (λ (o : Outputs). o .count) (c .conv-outputs .ensures) ∙ sym (filters-are (s .args .y) (s .args .c) (s .pre .0))
 
 times-requires-2 : tie.Need-times-requires-2 Inv-loop μ-loop
 times-requires-2 c κs = omega (arith, c .before .before .before .before .before .before .before .before .before .pre .1, filters (c .before .before .before))
 
 -- the bytes of a row
-line : (c : tie.After-times2 Inv-loop μ-loop) → c .times2 .result ≡ rowBytes (c .before .before .before .before .before .before .before .before .before .before .args .y .output)
-line c = let y = c .before .before .before .before .before .before .before .before .before .before .args .y in c .times2 .ensures .0 ∙ ap (λ (n : ℕ). y .output .columns * n) (filters (c .before .before .before .before))
+line :
+    (c : tie.After-times2 Inv-loop μ-loop) →
+    let y = c .before .before .before .before .before .before .before .before .before .before .args .y in
+    c .times2 .result ≡ rowBytes (y .output)
+line c =
+    let o = c .before .before .before .before in
+    let y = o .before .before .before .before .before .before .args .y in
+    c .times2 .ensures .0 ∙ ap (λ (n : ℕ). y .output .columns * n) (filters o)
 
 times-requires-3 : tie.Need-times-requires-3 Inv-loop μ-loop
-times-requires-3 c κs = let s = c .before .before .before .before .before .before .before .before .before .before in omega (arith, s .pre .1, line c, row-in (s .args .y .output) (s .args .i) (s .pre .1 .1 .1 .0))
+times-requires-3 c κs =
+    let s = c .before .before .before .before .before .before .before .before .before .before in
+    let a = s .args in
+    let h = s .pre .1 in
+    omega (arith, h, line c, row-in (a .y .output) (a .i) (h .1 .1 .0))
 
 -- the row stands in the output
-inside : (c : tie.After-times3 Inv-loop μ-loop) → c .times3 .result + c .before .times2 .result ≤ bytesOf (c .before .before .before .before .before .before .before .before .before .before .before .args .y .output)
-inside c = let s = c .before .before .before .before .before .before .before .before .before .before .before in row-skip (s .args .y .output) (s .args .i) (s .pre .1 .1 .1 .0) (line (c .before)) (c .times3 .ensures .0)
+inside :
+    (c : tie.After-times3 Inv-loop μ-loop) →
+    let y = c .before .before .before .before .before .before .before .before .before .before .before .args .y in
+    c .times3 .result + c .before .times2 .result ≤ bytesOf (y .output)
+inside c =
+    let s = c .before .before .before .before .before .before .before .before .before .before .before in
+    let a = s .args in
+    row-skip (a .y .output) (a .i) (s .pre .1 .1 .1 .0) (line (c .before)) (c .times3 .ensures .0)
 
 add-at : tie.Need-add-at Inv-loop μ-loop
-add-at c = let t = c .before in let s = t .before .before .before .before .before .before .before .before .before .before .before in omega (arith, s .pre .1, s .good, inside t)
+add-at c =
+    let t = c .before in
+    let s = t .before .before .before .before .before .before .before .before .before .before .before in
+    omega (arith, s .pre .1, s .good, inside t)
 
 loop-holds : tie.Need-loop-holds Inv-loop μ-loop
 loop-holds c = (omega arith, omega arith, laid-none _ _ _ _, omega arith)
 
 -- the place that is next has room in the row
-next : (c : tie.In-loop Inv-loop μ-loop) → c .before .loop .at + c .before .before .before .before .before .before .before .before .conv-outputs .result .count ≤ length (now (c .before .before .before .before .before .before .before .before .before .before .before .before .before .before .args .area))
+next :
+    (c : tie.In-loop Inv-loop μ-loop) →
+    let o = c .before .before .before .before .before .before .before .before .conv-outputs .result in
+    c .before .loop .at + o .count ≤ length (now (c .before .before .before .before .before .before .before .before .before .before .before .before .before .before .args .area))
 next c =
     let s = c .before .before .before .before .before .before .before .before .before .before .before .before .before .before in
     let y = s .args .y in
@@ -76,14 +103,19 @@ conv-place-requires : tie.Need-conv-place-requires Inv-loop μ-loop
 conv-place-requires c κs =
     let l = c .before .before in
     let v = l .before .loop .inv in
+    let w = l .before .before .before .before .before .before .before .before .before .window-for in
+    let o = l .before .before .before .before .before .before .before .before .conv-outputs in
     let s = l .before .before .before .before .before .before .before .before .before .before .before .before .before .before in
     let a = s .args in
     let h = s .pre .1 in
-    place-ready (a .y) (a .c) (s .pre .0) (h .0 .0) (a .z) (a .i) (l .before .loop .j) (a .from) (l .before .before .before .before .before .before .before .before .before .window-for .ensures) (l .before .before .before .before .before .before .before .before .conv-outputs .ensures)
-    (h .1 .1 .0) (l .loop-test .taken) (l .before .before .before .before .before .times .ensures .0) (v .1) (omega (arith, v .0, h .1 .0)) (omega (arith, next l, v .2 .same)) (omega (arith, v .3, h .1 .1))
+    place-ready (a .y) (a .c) (s .pre .0) (h .0 .0) (a .z) (a .i) (l .before .loop .j) (a .from) (w .ensures) (o .ensures) (h .1 .1 .0) (l .loop-test .taken) (l .before .before .before .before .before .times .ensures .0)
+    (v .1) (omega (arith, v .0, h .1 .0)) (omega (arith, next l, v .2 .same)) (omega (arith, v .3, h .1 .1))
 
 add-at-2 : tie.Need-add-at-2 Inv-loop μ-loop
-add-at-2 c = let l = c .before .before .before .before .before .before .before in omega (arith, l .before .before .before .before .before .before .before .before .before .before .before .before .before .before .good, next l)
+add-at-2 c =
+    let l = c .before .before .before .before .before .before .before in
+    let s = l .before .before .before .before .before .before .before .before .before .before .before .before .before .before in
+    omega (arith, s .good, next l)
 
 add-q : tie.Need-add-q Inv-loop μ-loop
 add-q c =

@@ -1,7 +1,7 @@
 -- `layers::conv::plain_row` meets its contract. The loop's invariant: j places of the row are laid from its place, which the tensor stands before.
 -- Assumes nothing.
 use mathlib.Core.Path.{_≡_, sym, ap, ap₂, _∙_}
-use Prim.Native.Nat.{ℕ, _+_, _*_, _-_, _≤_, _<_}
+use Prim.Native.Nat.{_+_, _*_, _-_, _≤_, _<_}
 use native.Mathlib.Omega.{arith}
 use denote.Ref.{now}
 use lib.ListN.{length}
@@ -9,9 +9,9 @@ use Rattle.records.specs.Shape.{bytesOf, rowBytes}
 use Rattle.windows.specs.Lists.{part}
 use Rattle.layers.specs.Outputs.{outputsOf}
 use Rattle.layers.specs.declared.outputs.Outputs.{Outputs}
-use Rattle.layers.proofs.Convs.{filters-are, plain-rows, plain-columns, plain-ready, plain-turn, plain-done}
+use Rattle.layers.proofs.Convs.{plain-rows, plain-columns, plain-ready, plain-turn, plain-done}
 use Rattle.layers.proofs.Laid.{Laid, room, laid-none, laid-done}
-use Rattle.layers.proofs.Rows.{row-in, row-skip}
+use Rattle.layers.proofs.Rows.{filters-are, row-in, row-skip}
 use Rattle.layers.proofs.conv.plain_row.Statement.{statement}
 use Rattle.layers.proofs.conv.plain_row.Tie as tie
 
@@ -33,8 +33,9 @@ times-requires c κs = omega (arith, c .before .before .before .before .before .
 -- row i is one of the input's
 row : (s : tie.Start Inv-loop μ-loop) → s .args .i < s .args .y .input .rows
 row s =
-    let e = plain-rows (s .args .y) (s .args .c) (s .pre .0) (s .pre .1 .0 .0) (s .pre .1 .1 .1 .1 .0) (s .pre .1 .1 .1 .1 .2) in
-    rw e at (s .pre .1 .1 .1 .0)
+    let h = s .pre .1 in
+    let e = plain-rows (s .args .y) (s .args .c) (s .pre .0) (h .0 .0) (h .1 .1 .1 .0) (h .1 .1 .1 .2) in
+    rw e at (h .1 .1 .0)
 
 times-requires-2 : tie.Need-times-requires-2 Inv-loop μ-loop
 times-requires-2 c κs =
@@ -42,16 +43,26 @@ times-requires-2 c κs =
     omega (arith, s .pre .1 .0, c .times .ensures .0, row s, row-in (s .args .y .input) (s .args .i) (row s))
 
 -- the row stands in the input
-inside : (c : tie.After-times2 Inv-loop μ-loop) → c .times2 .result + c .before .times .result ≤ bytesOf (c .before .before .before .before .before .before .before .args .y .input)
-inside c = let s = c .before .before .before .before .before .before .before in row-skip (s .args .y .input) (s .args .i) (row s) (c .before .times .ensures .0) (c .times2 .ensures .0)
+inside :
+    (c : tie.After-times2 Inv-loop μ-loop) →
+    let y = c .before .before .before .before .before .before .before .args .y in
+    c .times2 .result + c .before .times .result ≤ bytesOf (y .input)
+inside c =
+    let s = c .before .before .before .before .before .before .before in
+    let a = s .args in
+    row-skip (a .y .input) (a .i) (row s) (c .before .times .ensures .0) (c .times2 .ensures .0)
 
 add-start : tie.Need-add-start Inv-loop μ-loop
-add-start c = let t = c in let s = t .before .before .before .before .before .before .before in omega (arith, s .pre .1 .1 .0, s .good, inside t)
+add-start c =
+    let s = c .before .before .before .before .before .before .before in
+    omega (arith, s .pre .1 .1 .0, s .good, inside c)
 
 -- the output has the input's columns, and the filters for its channels
 shape :
     (c : tie.After-conv-outputs Inv-loop μ-loop) →
-    (c .before .before .before .before .args .y .output .columns ≡ c .before .before .before .before .args .y .input .columns) × (c .conv-outputs .result .count ≡ c .before .before .before .before .args .y .output .channels)
+    let y = c .before .before .before .before .args .y in
+    let o = c .conv-outputs .result in
+    (y .output .columns ≡ y .input .columns) × (o .count ≡ y .output .channels)
 shape c =
     let s = c .before .before .before .before in
     let a = s .args in
@@ -65,18 +76,34 @@ times-requires-3 : tie.Need-times-requires-3 Inv-loop μ-loop
 times-requires-3 c κs = omega (arith, c .before .before .before .before .before .before .before .pre .1 .0, shape (c .before .before .before))
 
 -- the bytes of a row of the output
-line : (c : tie.After-times3 Inv-loop μ-loop) → c .times3 .result ≡ rowBytes (c .before .before .before .before .before .before .before .before .args .y .output)
+line :
+    (c : tie.After-times3 Inv-loop μ-loop) →
+    let y = c .before .before .before .before .before .before .before .before .args .y in
+    c .times3 .result ≡ rowBytes (y .output)
 line c = let e = shape (c .before .before .before .before) in c .times3 .ensures .0 ∙ ap₂ _*_ (sym (e .0)) (e .1)
 
 times-requires-4 : tie.Need-times-requires-4 Inv-loop μ-loop
-times-requires-4 c κs = let s = c .before .before .before .before .before .before .before .before in omega (arith, s .pre .1, line c, row-in (s .args .y .output) (s .args .i) (s .pre .1 .1 .1 .0))
+times-requires-4 c κs =
+    let s = c .before .before .before .before .before .before .before .before in
+    let a = s .args in
+    let h = s .pre .1 in
+    omega (arith, h, line c, row-in (a .y .output) (a .i) (h .1 .1 .0))
 
 -- the row stands in the output
-outside : (c : tie.After-times4 Inv-loop μ-loop) → c .times4 .result + c .before .times3 .result ≤ bytesOf (c .before .before .before .before .before .before .before .before .before .args .y .output)
-outside c = let s = c .before .before .before .before .before .before .before .before .before in row-skip (s .args .y .output) (s .args .i) (s .pre .1 .1 .1 .0) (line (c .before)) (c .times4 .ensures .0)
+outside :
+    (c : tie.After-times4 Inv-loop μ-loop) →
+    let y = c .before .before .before .before .before .before .before .before .before .args .y in
+    c .times4 .result + c .before .times3 .result ≤ bytesOf (y .output)
+outside c =
+    let s = c .before .before .before .before .before .before .before .before .before in
+    let a = s .args in
+    row-skip (a .y .output) (a .i) (s .pre .1 .1 .1 .0) (line (c .before)) (c .times4 .ensures .0)
 
 add-at : tie.Need-add-at Inv-loop μ-loop
-add-at c = let t = c .before in let s = t .before .before .before .before .before .before .before .before .before in omega (arith, s .pre .1 .1 .0, s .good, outside t)
+add-at c =
+    let t = c .before in
+    let s = t .before .before .before .before .before .before .before .before .before in
+    omega (arith, s .pre .1 .1 .0, s .good, outside t)
 
 loop-holds : tie.Need-loop-holds Inv-loop μ-loop
 loop-holds c = (omega arith, omega arith, laid-none _ _ _ _)
@@ -84,8 +111,9 @@ loop-holds c = (omega arith, omega arith, laid-none _ _ _ _)
 -- the window that is next, and the place
 next :
     (c : tie.In-loop Inv-loop μ-loop) →
-    (c .before .loop .start + c .before .before .before .before .before .before .before .before .before .before .before .before .args .y .input .channels ≤ c .before .before .before .before .before .before .before .before .before .before .before .before .args .from + bytesOf (c .before .before .before .before .before .before .before .before .before .before .before .before .args .y .input)) ×
-    (c .before .loop .at + c .before .before .before .before .before .before .before .before .conv-outputs .result .count ≤ length (now (c .before .before .before .before .before .before .before .before .before .before .before .before .args .area)))
+    let a = c .before .before .before .before .before .before .before .before .before .before .before .before .args in
+    let o = c .before .before .before .before .before .before .before .before .conv-outputs .result in
+    (c .before .loop .start + a .y .input .channels ≤ a .from + bytesOf (a .y .input)) × (c .before .loop .at + o .count ≤ length (now (a .area)))
 next c =
     let l = c .before in
     let o = c .before .before .before .before .before .before .before .before .conv-outputs .result in
@@ -109,10 +137,16 @@ put-within-requires c κs =
     (plain-ready (a .y) (a .c) (s .pre .0) (a .z) (one .0) (one .1) (l .before .before .before .before .before .before .before .before .conv-outputs .ensures), (omega (arith, s .pre .1 .1 .0, v .1), omega (arith, v .2 .same)))
 
 add-start-2 : tie.Need-add-start-2 Inv-loop μ-loop
-add-start-2 c = let l = c .before .before .before .before in omega (arith, l .before .before .before .before .before .before .before .before .before .before .before .before .pre .1 .1 .0, l .before .before .before .before .before .before .before .before .before .before .before .before .good, next l)
+add-start-2 c =
+    let l = c .before .before .before .before in
+    let s = l .before .before .before .before .before .before .before .before .before .before .before .before in
+    omega (arith, s .pre .1 .1 .0, s .good, next l)
 
 add-at-2 : tie.Need-add-at-2 Inv-loop μ-loop
-add-at-2 c = let l = c .before .before .before .before in omega (arith, l .before .before .before .before .before .before .before .before .before .before .before .before .good, next l)
+add-at-2 c =
+    let l = c .before .before .before .before in
+    let s = l .before .before .before .before .before .before .before .before .before .before .before .before in
+    omega (arith, s .good, next l)
 
 add-j : tie.Need-add-j Inv-loop μ-loop
 add-j c = omega arith

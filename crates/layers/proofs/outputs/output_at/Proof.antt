@@ -19,8 +19,12 @@ use Rattle.layers.proofs.outputs.output_at.Tie as tie
 -- the weights of output f stand in the file
 inside :
     (s : tie.Start) →
-    s .args .o .weights + s .args .f * length (now (s .args .q)) + length (now (s .args .q)) ≤ length (now (s .args .file))
-inside s = room (s .args .f) (s .args .o .count) (length (now (s .args .q))) (s .args .o .weights) (omega arith) (s .pre .1 .0) (s .pre .0 .weights-in)
+    let a = s .args in
+    let n = length (now (a .q)) in
+    a .o .weights + a .f * n + n ≤ length (now (a .file))
+inside s =
+    let a = s .args in
+    room (a .f) (a .o .count) (length (now (a .q))) (a .o .weights) (omega arith) (s .pre .1 .0) (s .pre .0 .weights-in)
 
 mul-a : tie.Need-mul-a
 mul-a c = omega (arith, inside (c .before .before .before))
@@ -62,24 +66,32 @@ shared-slice-read-output : tie.Need-shared-slice-read-output
 shared-slice-read-output c = search needs
 
 -- the bias, as the machine hands it on
-bias : (c : tie.After-signed-of) → toZ w32 (ofZ w32 (c .signed-of .result)) ≡ i32At (now (c .before .before .before .before .before .before .before .args .file)) (c .before .before .before .before .before .before .before .args .o .biases + 4 * c .before .before .before .before .before .before .before .args .f)
+bias :
+    (c : tie.After-signed-of) →
+    let a = c .before .before .before .before .before .before .before .args in
+    toZ w32 (ofZ w32 (c .signed-of .result)) ≡ i32At (now (a .file)) (a .o .biases + 4 * a .f)
 bias c = toZ-ofZ w32 _ (sfits-of (c .signed-of .ok)) ∙ c .signed-of .ensures ∙ ap signed (c .before .u32-at .ensures)
 
 output-requires : tie.Need-output-requires
 output-requires c κs =
-    let s = c .before .before .before .before .before .before .before .before .before .before in
+    let b = c .before .before .before in
+    let s = b .before .before .before .before .before .before .before in
     let a = s .args in
-    let ready = s .pre .0 in
-    let small : natAbs (toZ w32 (ofZ w32 (c .before .before .before .signed-of .result))) ≤ 2 ^ 30 = rw (bias (c .before .before .before)) (ready .biases-small (a .f) (s .pre .1 .0)) in (
-      (sym (cut-length (now (a .file)) (a .o .weights + a .f * length (now (a .q))) (length (now (a .q))) (inside s)), ready .terms-few, s .pre .1 .1),
-      ((small, ready .sums-small (a .f) (s .pre .1 .0)), (ready .clamp, ready .multiplier-few, ready .shift-few)),
+    let q = now (a .q) in
+    let r = s .pre .0 in
+    let f = s .pre .1 .0 in
+    let small : natAbs (toZ w32 (ofZ w32 (b .signed-of .result))) ≤ 2 ^ 30 = rw (bias b) (r .biases-small (a .f) f) in (
+      (sym (cut-length (now (a .file)) (a .o .weights + a .f * length q) (length q) (inside s)), r .terms-few, s .pre .1 .1),
+      ((small, r .sums-small (a .f) f), (r .clamp, r .multiplier-few, r .shift-few)),
     )
 
 returns : tie.Need-returns
 returns c =
-    let a = c .before .before .before .before .before .before .before .before .before .before .before .args in
-    output-is (a .o) (now (a .file)) (now (a .sums)) (now (a .q)) (a .f) (bias (c .before .before .before .before))
-    (cut-is (now (a .file)) (a .o .weights + a .f * length (now (a .q))) (length (now (a .q)))) (c .output .ensures)
+    let b = c .before .before .before .before in
+    let a = b .before .before .before .before .before .before .before .args in
+    let q = now (a .q) in
+    output-is (a .o) (now (a .file)) (now (a .sums)) q (a .f) (bias b)
+    (cut-is (now (a .file)) (a .o .weights + a .f * length q) (length q)) (c .output .ensures)
 
 pub output-at-spec : {M : Type 1} → statement M
 output-at-spec =

@@ -53,7 +53,8 @@ part-output-at-end c = omega arith
 -- the window in the area as it is now is the one in the area as it was
 window :
     (c : tie.At-loop Inv-loop μ-loop) →
-    part (c .loop .area) (c .before .before .before .before .before .before .before .args .from) (c .before .before .before .before .before .before .before .args .from + c .before .before .before .before .before .before .before .args .n - c .before .before .before .before .before .before .before .args .from) ≡ part (now (c .before .before .before .before .before .before .before .args .area)) (c .before .before .before .before .before .before .before .args .from) (c .before .before .before .before .before .before .before .args .n)
+    let a = c .before .before .before .before .before .before .before .args in
+    part (c .loop .area) (a .from) (a .from + a .n - a .from) ≡ part (now (a .area)) (a .from) (a .n)
 window c =
     let a = c .before .before .before .before .before .before .before .args in
     cut-is _ (a .from) (a .n) ∙ laid-before _ _ (now (a .area)) (a .at) (a .from) (a .n) (omega arith) (omega arith) (c .loop .inv)

@@ -48,36 +48,40 @@ same-length-2 c = search needs
 
 returns : tie.Need-returns
 returns c =
-    let s = c .before .before .before .before .before .before .before .before .before .before .before .before .before .before in
+    let k = c .before .before .before .before .before .before .before .before in
+    let s = k .before .before .before .before .before .before in
     let a = s .args in
     let d = now (a .area) in
     let t : ℕ → List ℕ = λ from. tensorAt d from (a .y .input) in
-    c .before .before .before .before .conv-row .ensures ∙
-    ap (pasted d (a .y .place + a .i * rowBytes (a .y .output))) (row-as (a .y) (Convolution _) (c .before .before .before .before .before .before .before .before .kind .given .1) (a .z) (a .zr) (now (a .file)) (now (a .sums)) (t (a .from)) (t (a .other)) (a .i))
+    let e = k .kind .given .1 in
+    c .before .before .before .before .conv-row .ensures ∙ ap (pasted d (a .y .place + a .i * rowBytes (a .y .output))) (row-as (a .y) (Convolution _) e (a .z) (a .zr) (now (a .file)) (now (a .sums)) (t (a .from)) (t (a .other)) (a .i))
 
 same-length-3 : tie.Need-same-length-3
 same-length-3 c = search needs
 
 returns-2 : tie.Need-returns-2
 returns-2 c =
-    let s = c .before .before .before .before .before .before .before .before .before .before .before in
+    let k = c .before .before .before .before .before in
+    let s = k .before .before .before .before .before .before in
     let a = s .args in
     let d = now (a .area) in
     let t : ℕ → List ℕ = λ from. tensorAt d from (a .y .input) in
-    c .before .before .full-row .ensures ∙
-    ap₂ (pasted d) (full-place (a .y) _ (a .i) (ready-as (a .y) (Fully _) (c .before .before .before .before .before .kind2 .given .1) (s .pre .0) .output) (s .pre .1 .0)) (row-as (a .y) (Fully _) (c .before .before .before .before .before .kind2 .given .1) (a .z) (a .zr) (now (a .file)) (now (a .sums)) (t (a .from)) (t (a .other)) (a .i))
+    let e = k .kind2 .given .1 in
+    let one = ready-as (a .y) (Fully _) e (s .pre .0) .output in
+    c .before .before .full-row .ensures ∙ ap₂ (pasted d) (full-place (a .y) _ (a .i) one (s .pre .1 .0)) (row-as (a .y) (Fully _) e (a .z) (a .zr) (now (a .file)) (now (a .sums)) (t (a .from)) (t (a .other)) (a .i))
 
 same-length-4 : tie.Need-same-length-4
 same-length-4 c = search needs
 
 returns-3 : tie.Need-returns-3
 returns-3 c =
-    let s = c .before .before .before .before .before .before .before .before .before .before .before in
+    let k = c .before .before .before .before .before in
+    let s = k .before .before .before .before .before .before in
     let a = s .args in
     let d = now (a .area) in
     let t : ℕ → List ℕ = λ from. tensorAt d from (a .y .input) in
-    c .before .before .add-row .ensures ∙
-    ap (pasted d (a .y .place + a .i * rowBytes (a .y .output))) (row-as (a .y) (Addition _) (c .before .before .before .before .before .kind3 .given .1) (a .z) (a .zr) (now (a .file)) (now (a .sums)) (t (a .from)) (t (a .other)) (a .i))
+    let e = k .kind3 .given .1 in
+    c .before .before .add-row .ensures ∙ ap (pasted d (a .y .place + a .i * rowBytes (a .y .output))) (row-as (a .y) (Addition _) e (a .z) (a .zr) (now (a .file)) (now (a .sums)) (t (a .from)) (t (a .other)) (a .i))
 
 pub put-row-spec : {M : Type 1} → statement M
 put-row-spec =

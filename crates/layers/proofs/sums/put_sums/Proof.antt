@@ -1,7 +1,7 @@
 -- `layers::sums::put_sums` meets its contract. The loop's invariant: f of the sums are laid from the place, and a is where the next weights begin.
 -- Assumes nothing.
 use mathlib.Core.Path.{_≡_, ap, _∙_}
-use mathlib.Core.List.{List, [], _∷_}
+use mathlib.Core.List.{[], _∷_}
 use Prim.Native.Nat.{ℕ, _+_, _*_, _-_, _≤_}
 use native.Mathlib.Omega.{arith}
 use denote.Ref.{now}
@@ -33,7 +33,9 @@ loop-holds : tie.Need-loop-holds Inv-loop μ-loop
 loop-holds c = (omega arith, laid-none _ _ _ _)
 
 -- the weights of output f stand in the file
-inside : (c : tie.In-loop Inv-loop μ-loop) → c .before .loop .a + c .before .before .before .before .terms-of .result ≤ length (now (c .before .before .before .before .before .before .before .args .file))
+inside :
+    (c : tie.In-loop Inv-loop μ-loop) →
+    c .before .loop .a + c .before .before .before .before .terms-of .result ≤ length (now (c .before .before .before .before .before .before .before .args .file))
 inside c =
     let s = c .before .before .before .before .before .before .before in
     let w = c .before .before in
