@@ -36,14 +36,18 @@ text =
     0x31 ∷ 0x20 ∷ 0x63 ∷ 0x6F ∷ 0x6E ∷ 0x76 ∷ 0x20 ∷
     0x33 ∷ 0x20 ∷ 0x31 ∷ 0x20 ∷ 0x31 ∷ 0x20 ∷ 0x33 ∷ 0x20 ∷ 0x31 ∷ 0x0A ∷ []
 
+-- "refused 1" and a newline
+abbrev refusedOne : List ℕ
+refusedOne = 0x72 ∷ 0x65 ∷ 0x66 ∷ 0x75 ∷ 0x73 ∷ 0x65 ∷ 0x64 ∷ 0x20 ∷ 0x31 ∷ 0x0A ∷ []
+
 -- network K, and K less its last byte
-pub listings : (listingOf k ≡ text) × (listingOf (take 38 k) ≡ refusedLine 1)
+pub listings : (listingOf k ≡ text) × (listingOf (take 38 k) ≡ refusedOne)
 unfolding listingOf lineOf decimalTo joined decodeOf decodedAs endFault runOf stepOf pushed startOf started stopped readLayer headFault headMark pictureAt readConvAs convTerms convShape convOutput answer storedFault storedLen biasFaults sizeFault bytesOf markAt isMark signed biasFault paddingFault clampFault cutFault spareFault within first
 listings = (refl, refl)
 
 -- an empty file
-pub listing-empty : listingOf [] ≡ refusedLine 1
-unfolding listingOf decodeOf decodedAs runOf startOf started stopped headFault cutFault first
+pub listing-empty : listingOf [] ≡ refusedOne
+unfolding listingOf decimalTo decodeOf decodedAs runOf startOf started stopped headFault cutFault first
 listing-empty = refl
 
 -- a file that is too long
