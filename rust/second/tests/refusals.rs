@@ -29,31 +29,10 @@ fn k_cut_at_every_place() {
 
 #[test]
 fn k_with_a_field_out_of_range() {
-    let faults = [
-        (2, 0),
-        (3, 2),
-        (4, 0),
-        (5, 2),
-        (6, 0),
-        (6, 65),
-        (8, 0),
-        (8, 17), // head
-        (12, 0),
-        (12, 65),
-        (13, 0),
-        (13, 8),
-        (14, 0),
-        (14, 8),
-        (15, 0),
-        (15, 5),
-        (16, 3), // shape of the layer
-        (21, 32),
-        (25, 0x3F),
-        (25, 0x80),
-        (29, 0x41),
-        (29, 0xBF), // shift, multiplier, bias
-    ];
-    for (at, byte) in faults {
+    let head = [(2, 0), (3, 2), (4, 0), (5, 2), (6, 0), (6, 65), (8, 0), (8, 17)];
+    let shape = [(12, 0), (12, 65), (13, 0), (13, 8), (14, 0), (14, 8), (15, 0), (15, 5), (16, 3)];
+    let shift_multiplier_bias = [(21, 32), (25, 0x3F), (25, 0x80), (29, 0x41), (29, 0xBF)];
+    for (at, byte) in head.into_iter().chain(shape).chain(shift_multiplier_bias) {
         assert_eq!(refusal(&with(&K, at, byte)), 2, "byte {at} as {byte}");
     }
     assert_eq!(refusal(&with(&with(&K, 19, 5), 20, 4)), 2, "low above high");
