@@ -5,7 +5,7 @@
 //! reach is found by testing each row of each window. What follows from the document besides (bounds on totals, the
 //! distance of a rescaled number from the exact product) is asserted where it arises.
 //!
-//! * [`decode`]: the network file, stage by stage
+//! * [`mod@decode`]: the network file, stage by stage
 //! * [`Network`] and its parts: what a file says
 //! * [`numbers`]: totals, rescaling, finishing
 //! * [`run`]: one row of a layer, and the fresh run
