@@ -1,0 +1,109 @@
+//! The calls as a trait, and one call with its answer as values.
+
+use std::fmt;
+
+/// First and end of the band of tensor 0, then of tensor 1, and so on.
+pub type State = [u16; 34];
+
+/// The all-stale state, 1,0 everywhere.
+pub const ALL_STALE: State = {
+    let mut state = [0; 34];
+    let mut at = 0;
+    while at < 34 {
+        state[at] = 1;
+        at += 2;
+    }
+    state
+};
+
+/// An implementation of the five calls. Each gives its number; update gives its count too.
+pub trait Calls {
+    fn name(&self) -> String;
+
+    fn load(&self, network: &[u8], sums: &mut [u32], area: &[u8], state: &mut State) -> u8;
+
+    fn change_rows(
+        &self,
+        network: &[u8],
+        sums: &[u32],
+        area: &mut [u8],
+        state: &mut State,
+        first: usize,
+        count: usize,
+        rows: &[u8],
+    ) -> u8;
+
+    fn replace_layer(
+        &self,
+        network: &mut [u8],
+        sums: &mut [u32],
+        area: &[u8],
+        state: &mut State,
+        layer: usize,
+        record: &[u8],
+    ) -> u8;
+
+    fn update(&self, network: &[u8], sums: &[u32], area: &mut [u8], state: &mut State) -> (u8, u32);
+
+    fn read(&self, network: &[u8], sums: &[u32], area: &[u8], state: &State, out: &mut [u8]) -> u8;
+}
+
+/// A call without its buffers: those are in [`Lent`](crate::lent::Lent), rows, record and reading slice too.
+#[derive(Clone, Copy, Debug, PartialEq, Eq)]
+pub enum Call {
+    Load,
+    ChangeRows { first: usize, count: usize },
+    ReplaceLayer { layer: usize },
+    Update,
+    Read,
+}
+
+pub const CALL_NAMES: [&str; 5] = ["load", "change_rows", "replace_layer", "update", "read"];
+
+impl Call {
+    /// Which of [`CALL_NAMES`] it is.
+    pub fn index(self) -> usize {
+        match self {
+            Call::Load => 0,
+            Call::ChangeRows { .. } => 1,
+            Call::ReplaceLayer { .. } => 2,
+            Call::Update => 3,
+            Call::Read => 4,
+        }
+    }
+
+    pub fn name(self) -> &'static str {
+        CALL_NAMES[self.index()]
+    }
+}
+
+/// The numbers that each of [`CALL_NAMES`] may give: load tests 1 to 4, the others 1 to 6 and then their own.
+pub const MAY_GIVE: [&[u8]; 5] = [
+    &[0, 1, 2, 3, 4],
+    &[0, 1, 2, 3, 4, 5, 6, 7],
+    &[0, 1, 2, 3, 4, 5, 6, 7, 9],
+    &[0, 1, 2, 3, 4, 5, 6],
+    &[0, 1, 2, 3, 4, 5, 6, 7, 8],
+];
+
+impl fmt::Display for Call {
+    fn fmt(&self, f: &mut fmt::Formatter<'_>) -> fmt::Result {
+        match self {
+            Call::ChangeRows { first, count } => write!(f, "{} first {first} count {count}", self.name()),
+            Call::ReplaceLayer { layer } => write!(f, "{} layer {layer}", self.name()),
+            _ => write!(f, "{}", self.name()),
+        }
+    }
+}
+
+#[derive(Clone, Copy, Debug, PartialEq, Eq)]
+pub struct Answer {
+    pub number: u8,
+    pub count: u32,
+}
+
+impl Answer {
+    pub fn accepted(self) -> bool {
+        self.number == 0
+    }
+}
