@@ -23,7 +23,8 @@ use Rattle.layers.specs.Row.{ConvReady, tensorAt}
 use Rattle.layers.specs.declared.outputs.Outputs.{Outputs}
 use Rattle.layers.proofs.Laid.{Laid, room, laid-more, laid-before, cut-is}
 use Rattle.layers.proofs.Rows.{row-in}
-use Rattle.layers.proofs.Totals.{ready-any, outputs-length}
+use Rattle.layers.proofs.Lengths.{outputs-length}
+use Rattle.layers.proofs.Totals.{ready-any}
 
 -- ---- a window that is gathered
 

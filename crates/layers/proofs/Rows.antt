@@ -23,7 +23,7 @@ use Rattle.layers.specs.Full.{fullOutputs}
 use Rattle.layers.specs.Add.{addByte, addRow}
 use Rattle.layers.specs.Row.{tensorAt, rowBy, rowOf, ConvReady, KindReady, Ready}
 use Rattle.layers.proofs.Laid.{Laid, part-at, laid-more, laid-before}
-use Rattle.layers.proofs.Totals.{outputs-length}
+use Rattle.layers.proofs.Lengths.{ready-shaped, row-length}
 
 -- a row stands within its tensor
 pub row-in : (s : Shape) (i : ℕ) → i < s .rows → i * rowBytes s + rowBytes s ≤ bytesOf s
@@ -38,18 +38,6 @@ row-skip s i h ew es = omega (arith, es ∙ ap (λ (m : ℕ). i * m) ew, row-in 
 pub filters-are : (y : Layer) (c : Conv) {file sums : List ℕ} → ConvReady y c file sums → y .output .channels ≡ c .filters
 unfolding convOutput
 filters-are y c r = ap (λ (s : Shape). s .channels) (r .output)
-
--- every row that a layer makes has the bytes of a row of its output
-pub length-by :
-    (kind : Kind) (y : Layer) (z z′ : ℕ) (file sums t t′ : List ℕ) (i : ℕ) →
-    KindReady kind y file sums →
-    length (rowBy kind y z z′ file sums t t′ i) ≡ rowBytes (y .output)
-unfolding convRow fullOutput addRow
-length-by (Convolution c) y z z′ file sums t t′ i r =
-    joined-length (y .output .columns) (c .filters) _ (λ j. outputs-length (convOutputs y c z) file sums _) ∙
-    ap (λ (n : ℕ). y .output .columns * n) (sym (filters-are y c r))
-length-by (Fully f) y z z′ file sums t t′ i r = outputs-length (fullOutputs y f z) file sums t ∙ sym (ap rowBytes (r .output) ∙ omega arith)
-length-by (Addition a) y z z′ file sums t t′ i r = joined-length (rowBytes (y .output)) 1 _ (λ k. refl) ∙ mul-one (rowBytes (y .output))
 
 module _ (y : Layer) (z z′ : ℕ) (file sums : List ℕ) (from other : ℕ) where
   -- row i of the tensors that stand in an area
@@ -79,7 +67,7 @@ module _ (y : Layer) (z z′ : ℕ) (file sums : List ℕ) (from other : ℕ) wh
       let t = laid-before (end - first) _ area at from (bytesOf (y .input)) (omega (arith, r .before)) inside l in
       let t′ = laid-before (end - first) _ area at other (bytesOf (y .input)) (omega (arith, r .other-before)) inside l in
       rw steps
-      (laid-more (end - first) _ area at w (i - first) (λ k. length-by (y .kind) y z z′ file sums _ _ _ (r .kind)) inside (omega arith) place l
+      (laid-more (end - first) _ area at w (i - first) (λ k. row-length y z z′ file sums _ _ _ (ready-shaped y file sums (r .kind))) inside (omega arith) place l
       (e ∙ cc (t, t′, row)) same)
 
 -- what a layer needs, and its rows, by its kind

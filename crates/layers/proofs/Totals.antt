@@ -72,8 +72,3 @@ module _ (o : Outputs) (file sums q : List ℕ) where
       r ≡ outputOf o file sums q f
   unfolding outputOf
   output-is f eb ew er = rw (er, eb, ew)
-
-  -- a byte for each filter or output
-  pub outputs-length : length (outputsOf o file sums q) ≡ o .count
-  unfolding outputsOf
-  outputs-length = joined-length (o .count) 1 (λ f. outputOf o file sums q f ∷ []) (λ f. refl) ∙ mul-one (o .count)

@@ -18,6 +18,7 @@ use Rattle.records.specs.declared.mark.Mark.the-variants.{CV, FU, AD, Other}
 use Rattle.records.proofs.Tests.{cut-there}
 use Rattle.records.proofs.Answers.{Answered, answered-map, answered-found}
 use Rattle.records.proofs.Taken.{Left, ConvFound, FullFound, AddFound, conv-found, full-found, add-found}
+use Rattle.network.proofs.Passing.{unless-cut}
 use Rattle.network.specs.Network.{tensorOf}
 use Rattle.network.specs.Decode.{unlessCut, readMarked, readLayer}
 use Rattle.network.specs.Taken.{KindTaken}
@@ -126,14 +127,10 @@ module _ (s : List ℕ) (at : ℕ) (n : Network) (made : ℕ) where
       (add-found s at i (n .area) (n .store) made other h g)
   marked-grown Other h g = omega arith
 
-  unless-cut : (f : ℕ) (r : Read) → (f ≡ 0 → Answered (Grown s n made at) r) → Answered (Grown s n made at) (unlessCut f r)
-  unless-cut zero r k = k refl
-  unless-cut (suc f) r k = omega arith
-
   pub read-grown : at ≤ length s → GoodShape (tensorOf n made) → Answered (Grown s n made at) (readLayer s at n made)
   unfolding readLayer
   read-grown h g =
-      unless-cut (cutFault s at (fixedLen (markAt s at))) (readMarked (markAt s at) s at n made)
+      unless-cut (Grown s n made at) (cutFault s at (fixedLen (markAt s at))) (readMarked (markAt s at) s at n made)
       (λ p. marked-grown (markAt s at) (cut-there s at (fixedLen (markAt s at)) h p) g)
 
 pub found-grown :
