@@ -13,12 +13,13 @@ use Rattle.records.specs.declared.layer.Kind.{Kind}
 use Rattle.records.specs.declared.layer.Kind.the-variants.{Convolution, Fully, Addition}
 use Rattle.records.specs.declared.layer.Layer.{Layer}
 use Rattle.network.specs.Network.{layerOf, tensorOf}
-use Rattle.network.specs.Taken.{ConvTaken, KindTaken, Taken}
+use Rattle.network.specs.Taken.{ConvTaken, KindTaken, LayerTaken, Taken}
 use Rattle.network.specs.declared.net.Network.{Network}
 use Rattle.bands.specs.declared.reach.Link.{Link}
 use Rattle.bands.specs.Windows.{Shape as Chain, rowsIn, Sound}
 use Rattle.bands.proofs.Reached.{row-starts}
 use Rattle.checks.specs.Tensors.{linkBy, linkOf}
+use Rattle.checks.proofs.Rows.{input-good}
 
 -- the link of a layer that is of kind k
 pub link-at : (n : Network) (m : ℕ) (y : Layer) (k : Kind) → y ≡ layerOf n m → y .kind ≡ k → linkBy k y m ≡ linkOf n m
@@ -38,7 +39,12 @@ pub record LinkOk (n : Network) (m : ℕ) (y : Link) : Type 0 where
   pub starts : (i : ℕ) → i < y .rows → i * y .stride < tensorOf n m .rows + y .before
 
 -- the rows of a convolution
-conv-starts : (s : List ℕ) (y : Layer) (c : Conv) → ConvTaken s y c → (i : ℕ) → i < y .output .rows → i * c .stride < y .input .rows + c .padding
+conv-starts :
+    (s : List ℕ) (y : Layer) (c : Conv) →
+    ConvTaken s y c →
+    (i : ℕ) →
+    i < y .output .rows →
+    i * c .stride < y .input .rows + c .padding
 unfolding convOutput
 conv-starts s y c t i h =
     let p = c .padding in
@@ -49,48 +55,49 @@ conv-starts s y c t i h =
     (omega (arith, t .rows-fit))
     (subst (λ (k : ℕ). i < k) made h)
 
-module _ (s : List ℕ) (n : Network) (m : ℕ) (y : Layer) (input : y .input ≡ tensorOf n m) (good : GoodShape (y .input)) (makes : y .output ≡ tensorOf n (suc m)) where
-  link-by : (k : Kind) → KindTaken s n m y k → LinkOk n m (linkBy k y m)
+module _ (s : List ℕ) (n : Network) (m : ℕ) (l : LayerTaken s n m (layerOf n m)) (good : GoodShape (layerOf n m .input)) where
+  input-rows : layerOf n m .input .rows ≡ tensorOf n m .rows
+  input-rows = ap (λ (x : Shape). x .rows) (l .input)
+
+  -- a layer without padding or strides, that makes at most as many rows as it reads
+  plain :
+      (other kernel : ℕ) →
+      other ≤ m →
+      tensorOf n other .rows ≡ tensorOf n m .rows →
+      0 < kernel →
+      layerOf n m .output .rows ≤ layerOf n m .input .rows →
+      LinkOk n m (record { other = other; before = 0; kernel = kernel; stride = 1; rows = layerOf n m .output .rows })
+  plain other kernel there same some few = record {
+    other-before = there;
+    other-rows = same;
+    before-few = omega arith;
+    before-less = some;
+    kernel-some = some;
+    stride-some = omega arith;
+    stride-few = omega arith;
+    rows-are = refl;
+    starts = λ i h. omega (arith, input-rows);
+  }
+
+  link-by : (k : Kind) → KindTaken s n m (layerOf n m) k → LinkOk n m (linkBy k (layerOf n m) m)
   unfolding fullOutput
-  link-by (Convolution c) t =
-      let rows = ap (λ (x : Shape). x .rows) input in
-      record {
-        other-before = omega arith;
-        other-rows = refl;
-        before-few = omega (arith, t .ok .padding-rows, t .ok .height-few);
-        before-less = t .ok .padding-rows;
-        kernel-some = t .ok .height-some;
-        stride-some = t .ok .stride-some;
-        stride-few = omega (arith, t .ok .stride-few);
-        rows-are = ap (λ (x : Shape). x .rows) makes;
-        starts = λ i h. omega (arith, conv-starts s y c t i h, rows);
-      }
+  link-by (Convolution c) t = record {
+    other-before = omega arith;
+    other-rows = refl;
+    before-few = omega (arith, t .ok .padding-rows, t .ok .height-few);
+    before-less = t .ok .padding-rows;
+    kernel-some = t .ok .height-some;
+    stride-some = t .ok .stride-some;
+    stride-few = omega (arith, t .ok .stride-few);
+    rows-are = refl;
+    starts = λ i h. omega (arith, conv-starts s (layerOf n m) c t i h, input-rows);
+  }
   link-by (Fully f) t =
-      let rows = ap (λ (x : Shape). x .rows) input in
-      record {
-        other-before = omega arith;
-        other-rows = refl;
-        before-few = omega arith;
-        before-less = good .rows-some;
-        kernel-some = good .rows-some;
-        stride-some = omega arith;
-        stride-few = omega arith;
-        rows-are = ap (λ (x : Shape). x .rows) makes;
-        starts = λ i h. omega (arith, good .rows-some, ap (λ (x : Shape). x .rows) (t .output), rows);
-      }
+      plain m (layerOf n m .input .rows) (omega arith) refl (good .rows-some)
+      (omega (arith, ap (λ (x : Shape). x .rows) (t .output), good .rows-some))
   link-by (Addition a) t =
-      let rows = ap (λ (x : Shape). x .rows) input in
-      record {
-        other-before = t .other-there;
-        other-rows = ap (λ (x : Shape). x .rows) (t .other-shape ∙ input);
-        before-few = omega arith;
-        before-less = omega arith;
-        kernel-some = omega arith;
-        stride-some = omega arith;
-        stride-few = omega arith;
-        rows-are = ap (λ (x : Shape). x .rows) makes;
-        starts = λ i h. omega (arith, ap (λ (x : Shape). x .rows) (t .output), rows);
-      }
+      plain (a .other) 1 (t .other-there) (ap (λ (x : Shape). x .rows) (t .other-shape) ∙ input-rows) (omega arith)
+      (omega (arith, ap (λ (x : Shape). x .rows) (t .output)))
 
 -- the layers as the history sees them
 abbrev pub chainOf : Network → Chain
@@ -107,9 +114,7 @@ chain-rows n (suc m) = link-rows (layerOf n m .kind) (layerOf n m) m
 
 module _ (s : List ℕ) (n : Network) (t : Taken s n) where
   pub link-ok : (m : ℕ) → m < n .count → LinkOk n m (linkOf n m)
-  link-ok m h =
-      let y = t .layers m h in
-      link-by s n m (layerOf n m) (y .input) (subst GoodShape (sym (y .input)) (t .shapes m (omega arith))) refl (layerOf n m .kind) (y .kind)
+  link-ok m h = link-by s n m (t .layers m h) (input-good s n t m h) (layerOf n m .kind) (t .layers m h .kind)
 
   pub links-sound : Sound (chainOf n)
   links-sound = record {

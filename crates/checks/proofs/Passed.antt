@@ -1,13 +1,13 @@
 -- What is known where a test passes.
 -- Assumes nothing.
-use Prim.Native.Nat.{ℕ, suc, _+_, _*_, _≤_}
+use Prim.Native.Nat.{ℕ, _+_, _*_, _≤_}
 use mathlib.Core.Path.{_≡_, sym}
-use mathlib.Core.Bool.{Bool, true, _&&_, and-eq-true-iff}
+use mathlib.Core.Bool.{true, _&&_, and-eq-true-iff}
 use mathlib.Core.List.{List}
 use borrow.Author.Tests.{leb-true, eqb-true}
 use lib.Dec.{leb, eqb}
 use lib.ListN.{length}
-use Rattle.records.specs.Faults.{unless, first}
+use Rattle.records.specs.Faults.{first}
 use Rattle.records.specs.Shape.{bytesOf, rowBytes}
 use Rattle.records.proofs.Tests.{unless-none, first-both, first-assoc}
 use Rattle.network.specs.Network.{tensorOf}
@@ -19,10 +19,7 @@ use Rattle.bands.specs.State.{stateFault, clean}
 use Rattle.bands.specs.declared.state.State.{State}
 use Rattle.checks.specs.Tensors.{tensorsOf}
 use Rattle.checks.specs.Tests.{roomFault, sumsFault, loadFault, callFault, rowsFault, layerFault, sliceFault, staleFault}
-
--- two tests in one
-both-none : (a b : Bool) (k : ℕ) → unless (a && b) (suc k) ≡ 0 → (a ≡ true) × (b ≡ true)
-both-none a b k p = and-eq-true-iff a b .0 (unless-none (a && b) k p)
+use Rattle.checks.proofs.Pairs.{both-none}
 
 -- tests 1 to 4
 pub record LoadPassed (file : List ℕ) (sums area : ℕ) : Type 0 where

@@ -21,14 +21,14 @@ abbrev pub sumIn : List ℕ → ℕ → ℕ → ℕ → Bool
 sumIn sums at most f = leb (getD sums (at + f) 0) most
 
 -- the test of a layer, from what the code worked out
-pub fit-is :
+pub fits-as :
     (y : Layer) (sums : List ℕ) (terms count : ℕ) (r : Bool) →
     terms ≡ termsOf (y .kind) (y .input) →
     count ≡ sumsOf (y .kind) →
     r ≡ every count (sumIn sums (y .sums) (255 * terms)) →
     r ≡ layerSumsFit y sums
 unfolding layerSumsFit
-fit-is y sums terms count r t k e =
+fits-as y sums terms count r t k e =
     e ∙ ap (λ (j : ℕ). every j (sumIn sums (y .sums) (255 * terms))) k
     ∙ ap (λ (j : ℕ). every (sumsOf (y .kind)) (sumIn sums (y .sums) (255 * j))) t
 

@@ -1,6 +1,6 @@
 // What the bands need of a network.
 ghost use mathlib.Core.Path.{_≡_};
-ghost use Prim.Native.Nat.{ℕ, _+_, _≤_, _<_};
+ghost use Prim.Native.Nat.{ℕ, _≤_, _<_};
 ghost use Rattle.network.specs.Network.{layerOf, tensorOf};
 ghost use Rattle.checks.specs.Tensors.{tensorsOf, linkOf};
 use bands::reach::Link;
@@ -53,12 +53,15 @@ pub fn link_of(n: Network, m: usize) -> Link
             stride: 1,
             rows,
         },
-        Kind::Addition(a) => Link {
-            other: a.other as usize,
-            before: 0,
-            kernel: 1,
-            stride: 1,
-            rows,
-        },
+        Kind::Addition(a) => {
+            let other = a.other as usize;
+            Link {
+                other,
+                before: 0,
+                kernel: 1,
+                stride: 1,
+                rows,
+            }
+        }
     }
 }

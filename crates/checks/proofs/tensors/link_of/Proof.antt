@@ -16,26 +16,26 @@ cast-rows c = omega (arith, ap (λ (y : Layer). y .output .rows) (c .before .bef
 enum-known-kind : tie.Need-enum-known-kind
 enum-known-kind c = search needs
 
-cast-t11 : tie.Need-cast-t11
-cast-t11 c = search needs
-
 cast-t12 : tie.Need-cast-t12
 cast-t12 c = search needs
 
 cast-t13 : tie.Need-cast-t13
 cast-t13 c = search needs
 
+cast-t14 : tie.Need-cast-t14
+cast-t14 c = search needs
+
 enum-told : tie.Need-enum-told
 enum-told c = search needs
 
-cast-t14 : tie.Need-cast-t14
-cast-t14 c = omega (arith, ap (λ (y : Layer). y .input .rows) (c .before .before .before .before .before .before .layer .ensures))
+cast-t15 : tie.Need-cast-t15
+cast-t15 c = omega (arith, ap (λ (y : Layer). y .input .rows) (c .before .before .before .before .before .before .layer .ensures))
 
 enum-known-kind-2 : tie.Need-enum-known-kind-2
 enum-known-kind-2 c = search needs
 
-cast-t15 : tie.Need-cast-t15
-cast-t15 c = search needs
+cast-other : tie.Need-cast-other
+cast-other c = search needs
 
 returns : tie.Need-returns
 returns c = link-at (c .before .before .before .before .before .before .before .before .before .before .args .n) (c .before .before .before .before .before .before .before .before .before .before .args .m) _ _ (c .before .before .before .before .before .before .before .before .before .layer .ensures) (c .before .before .before .before .kind .given .1)
@@ -53,13 +53,13 @@ link-of-spec =
     layer-requires
     cast-rows
     enum-known-kind
-    cast-t11
     cast-t12
     cast-t13
-    enum-told
     cast-t14
-    enum-known-kind-2
+    enum-told
     cast-t15
+    enum-known-kind-2
+    cast-other
     returns
     returns-2
     returns-3)

@@ -1,12 +1,11 @@
 -- `checks::tensors::tensors_of` meets its contract: the loop's invariant is that the rows of each tensor before t stand in the array.
 -- Assumes nothing.
-use Prim.Native.Nat.{ℕ, _≤_, _<_, _-_}
-use mathlib.Core.Path.{_≡_, _∙_, ap}
+use Prim.Native.Nat.{ℕ, _≤_, _-_}
+use mathlib.Core.Path.{_≡_, ap}
 use mathlib.Core.List.{List}
 use native.Mathlib.Omega.{arith}
-use lib.ListN.{length, getD, length-set, length-replicate}
+use lib.ListN.{length-replicate}
 use borrow.Author.Needs.{needs}
-use borrow.Author.Count.{below-none}
 use Rattle.records.specs.declared.shape.Shape.{Shape}
 use Rattle.network.specs.Network.{tensorOf}
 use Rattle.checks.proofs.Numbers.{Told, told-more, told-all}

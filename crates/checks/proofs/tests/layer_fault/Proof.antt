@@ -1,20 +1,21 @@
--- `checks::tests::layer_fault` meets its contract, by its two tests. Assumes nothing.
-use borrow.Author.Tests.{le-leb, lt-leb}
+-- `checks::tests::layer_fault` meets its contract. Assumes nothing.
+use native.Mathlib.Omega.{arith}
 use Rattle.checks.specs.Tests.{layerFault}
+use Rattle.checks.proofs.Pairs.{both-hold, first-fails, second-fails}
 use Rattle.checks.proofs.tests.layer_fault.Statement.{statement}
 use Rattle.checks.proofs.tests.layer_fault.Tie as tie
 
 returns : tie.Need-returns
 unfolding layerFault
-returns c = rw (le-leb _ _ (c .before .before .if1 .taken), le-leb _ _ (c .if2 .taken))
+returns c = both-hold 1 (c .before .before .before .args .k) (c .before .before .before .args .k) (c .before .before .before .args .n .count) 7 (omega arith) (omega arith)
 
 returns-2 : tie.Need-returns-2
 unfolding layerFault
-returns-2 c = rw (le-leb _ _ (c .before .before .if1 .taken), lt-leb _ _ (c .if2 .left))
+returns-2 c = second-fails 1 (c .before .before .before .args .k) (c .before .before .before .args .k) (c .before .before .before .args .n .count) 7 (omega arith) (omega arith)
 
 returns-3 : tie.Need-returns-3
 unfolding layerFault
-returns-3 c = rw (lt-leb _ _ (c .if1 .left))
+returns-3 c = first-fails 1 (c .before .args .k) (c .before .args .k) (c .before .args .n .count) 7 (omega arith)
 
 pub layer-fault-spec : {M : Type 1} → statement M
 layer-fault-spec = tie.close (tie.spec returns returns-2 returns-3)

@@ -2,18 +2,21 @@
 use Prim.Native.Nat.{_+_, _≤_, _<_}
 use native.Mathlib.Omega.{arith}
 use borrow.Author.Tests.{le-leb, lt-leb, eq-eqb, ne-eqb}
+use Rattle.records.specs.Shape.{rowBytes, GoodShape}
+use Rattle.records.specs.declared.shape.Shape.{Shape}
 use Rattle.records.proofs.Shapes.{mul-most}
 use Rattle.checks.specs.Tests.{rowsFault}
 use Rattle.checks.proofs.tests.rows_fault.Statement.{statement}
 use Rattle.checks.proofs.tests.rows_fault.Tie as tie
 
+row-few : (s : Shape) → GoodShape s → rowBytes s ≤ 4194304
+row-few s g = mul-most (s .columns) (s .channels) 16384 256 (g .columns-few) (g .channels-few)
+
 mul-if4 : tie.Need-mul-if4
-mul-if4 c = omega (arith, mul-most (c .before .before .before .before .before .args .n .picture .columns) (c .before .before .before .before .before .args .n .picture .channels) 16384 256 (c .before .before .before .before .before .pre .columns-few) (c .before .before .before .before .before .pre .channels-few))
+mul-if4 c = omega (arith, row-few _ (c .before .before .before .before .before .pre))
 
 mul-if4-2 : tie.Need-mul-if4-2
-mul-if4-2 c =
-    let row = mul-most (c .before .before .before .before .before .args .n .picture .columns) (c .before .before .before .before .before .args .n .picture .channels) 16384 256 (c .before .before .before .before .before .pre .columns-few) (c .before .before .before .before .before .pre .channels-few) in
-    omega (arith, mul-most (c .before .before .before .before .before .args .count) _ 16384 4194304 (omega arith) row)
+mul-if4-2 c = omega (arith, mul-most (c .before .before .before .before .before .args .count) _ 16384 4194304 (omega arith) (row-few _ (c .before .before .before .before .before .pre)))
 
 returns : tie.Need-returns
 unfolding rowsFault

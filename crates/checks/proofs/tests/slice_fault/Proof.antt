@@ -1,6 +1,6 @@
 -- `checks::tests::slice_fault` meets its contract. Assumes nothing.
-use Prim.Native.Nat.{ℕ}
-use mathlib.Core.Path.{_≡_, sym, _∙_, ap}
+use mathlib.Core.Path.{_≡_, _∙_, ap}
+use native.Mathlib.Omega.{arith}
 use borrow.Author.Needs.{needs}
 use borrow.Author.Tests.{eq-eqb, ne-eqb}
 use Rattle.records.specs.Shape.{bytesOf}
@@ -21,11 +21,11 @@ asked c = c .bytes-of .ensures ∙ ap bytesOf (c .before .tensor .ensures)
 
 returns : tie.Need-returns
 unfolding sliceFault
-returns c = rw (eq-eqb _ _ (c .if1 .taken ∙ asked (c .before)))
+returns c = rw (eq-eqb (c .before .before .before .args .len) (bytesOf (tensorOf (c .before .before .before .args .n) (c .before .before .before .args .n .count))) (omega (arith, asked (c .before))))
 
 returns-2 : tie.Need-returns-2
 unfolding sliceFault
-returns-2 c = rw (ne-eqb _ _ (λ e. c .if1 .left (e ∙ sym (asked (c .before)))))
+returns-2 c = rw (ne-eqb (c .before .before .before .args .len) (bytesOf (tensorOf (c .before .before .before .args .n) (c .before .before .before .args .n .count))) (λ e. omega (arith, asked (c .before))))
 
 pub slice-fault-spec : {M : Type 1} → statement M
 slice-fault-spec = tie.close (tie.spec tensor-requires bytes-of-requires returns returns-2)

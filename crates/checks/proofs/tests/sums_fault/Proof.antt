@@ -1,5 +1,5 @@
 -- `checks::tests::sums_fault` meets its contract: the loop's invariant is that the sums of every layer before m fit. Assumes nothing.
-use Prim.Native.Nat.{_≤_, _<_, _-_}
+use Prim.Native.Nat.{_≤_, _-_}
 use mathlib.Core.Path.{_≡_, refl, sym, _∙_, ap}
 use mathlib.Core.Bool.{true}
 use native.Mathlib.Omega.{arith}
@@ -37,12 +37,12 @@ sums-fit-requires c κs =
     rw (c .layer .ensures) (input-good _ _ t m h, (terms-few _ _ t m h, omega (arith, t .layers m h .sums-end)))
 
 -- what the turn's test says of layer m
-fit-is : (c : tie.After-sums-fit Inv-loop μ-loop) → c .sums-fit .result ≡ layerSumsFit (layerOf (c .before .before .before .before .before .before .args .n) (c .before .before .before .loop .m)) (c .before .before .before .before .before .before .args .sums .now)
-fit-is c = c .sums-fit .ensures ∙ ap (λ (y : Layer). layerSumsFit y (c .before .before .before .before .before .before .args .sums .now)) (c .before .layer .ensures)
+layer-fits : (c : tie.After-sums-fit Inv-loop μ-loop) → c .sums-fit .result ≡ layerSumsFit (layerOf (c .before .before .before .before .before .before .args .n) (c .before .before .before .loop .m)) (c .before .before .before .before .before .before .args .sums .now)
+layer-fits c = c .sums-fit .ensures ∙ ap (λ (y : Layer). layerSumsFit y (c .before .before .before .before .before .before .args .sums .now)) (c .before .layer .ensures)
 
 returns : tie.Need-returns Inv-loop μ-loop
 unfolding sumsFault
-returns c = rw (every-not (λ k. layerSumsFit (layerOf (c .before .before .before .before .before .before .before .args .n) k) (c .before .before .before .before .before .before .before .args .sums .now)) _ (c .before .before .before .before .loop .m) (c .before .before .before .loop-test .taken) (sym (fit-is (c .before)) ∙ not-true _ (c .if1 .taken)))
+returns c = rw (every-not (λ k. layerSumsFit (layerOf (c .before .before .before .before .before .before .before .args .n) k) (c .before .before .before .before .before .before .before .args .sums .now)) _ (c .before .before .before .before .loop .m) (c .before .before .before .loop-test .taken) (sym (layer-fits (c .before)) ∙ not-true _ (c .if1 .taken)))
 
 add-m : tie.Need-add-m Inv-loop μ-loop
 add-m c = search needs
@@ -52,7 +52,7 @@ loop-less c = search needs
 
 loop-again : tie.Need-loop-again Inv-loop μ-loop
 loop-again c =
-    (search needs, rw add-one (every-more (λ k. layerSumsFit (layerOf (c .before .before .before .before .before .before .before .args .n) k) (c .before .before .before .before .before .before .before .args .sums .now)) _ (c .before .before .before .before .loop .inv .1) (sym (fit-is (c .before)) ∙ not-false _ (c .if1 .left))))
+    (search needs, rw add-one (every-more (λ k. layerSumsFit (layerOf (c .before .before .before .before .before .before .before .args .n) k) (c .before .before .before .before .before .before .before .args .sums .now)) _ (c .before .before .before .before .loop .inv .1) (sym (layer-fits (c .before)) ∙ not-false _ (c .if1 .left))))
 
 returns-2 : tie.Need-returns-2 Inv-loop μ-loop
 unfolding sumsFault

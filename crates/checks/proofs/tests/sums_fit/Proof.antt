@@ -1,16 +1,15 @@
 -- `checks::tests::sums_fit` meets its contract: the loop's invariant is that no sum before f is too large. Assumes nothing.
-use Prim.Native.Nat.{ℕ, _+_, _*_, _≤_, _<_, _-_}
+use Prim.Native.Nat.{_+_, _*_, _≤_, _<_, _-_}
 use mathlib.Core.Path.{_≡_, refl, sym}
 use mathlib.Core.Bool.{true}
 use native.Mathlib.Omega.{arith}
 use native.Mathlib.Numerals.{add-one}
 use borrow.Author.Needs.{needs}
 use borrow.Author.Tests.{le-leb, lt-leb}
-use lib.Dec.{leb}
 use lib.ListN.{length, getD}
 use Rattle.bands.specs.Choice.{every}
 use Rattle.bands.proofs.Choice.{every-more, every-not}
-use Rattle.checks.proofs.Sums.{sumIn, fit-is}
+use Rattle.checks.proofs.Sums.{sumIn, fits-as}
 use Rattle.checks.proofs.tests.sums_fit.Statement.{statement}
 use Rattle.checks.proofs.tests.sums_fit.Tie as tie
 
@@ -47,8 +46,8 @@ shared-slice-read-if1 c = omega arith
 
 returns : tie.Need-returns Inv-loop μ-loop
 returns c =
-    fit-is _ _ _ _ _ (c .before .before .before .before .before .terms-of .ensures) (c .before .before .before .before .sums-of .ensures)
-    (sym (every-not _ _ (c .before .before .before .loop .f) (c .before .before .loop-test .taken) (lt-leb _ _ (c .if1 .taken))))
+    let h : 255 * c .before .before .before .before .before .terms-of .result < getD (c .before .before .before .before .before .before .before .args .sums .now) (c .before .before .before .before .before .before .before .args .y .sums + c .before .before .before .loop .f) 0 = omega arith in
+    fits-as _ _ _ _ _ (c .before .before .before .before .before .terms-of .ensures) (c .before .before .before .before .sums-of .ensures) (sym (every-not _ _ (c .before .before .before .loop .f) (c .before .before .loop-test .taken) (lt-leb _ _ h)))
 
 add-f : tie.Need-add-f Inv-loop μ-loop
 add-f c = omega arith
@@ -57,12 +56,14 @@ loop-less : tie.Need-loop-less Inv-loop μ-loop
 loop-less c = omega arith
 
 loop-again : tie.Need-loop-again Inv-loop μ-loop
-loop-again c = (search needs, c .before .before .before .loop .inv .1, rw add-one (every-more _ _ (c .before .before .before .loop .inv .2) (le-leb _ _ (c .if1 .left))))
+loop-again c =
+    let h : getD (c .before .before .before .before .before .before .before .args .sums .now) (c .before .before .before .before .before .before .before .args .y .sums + c .before .before .before .loop .f) 0 ≤ 255 * c .before .before .before .before .before .terms-of .result = omega arith in
+    (search needs, c .before .before .before .loop .inv .1, rw add-one (every-more _ _ (c .before .before .before .loop .inv .2) (le-leb _ _ h)))
 
 returns-2 : tie.Need-returns-2 Inv-loop μ-loop
 returns-2 c =
     let e : c .before .loop .f ≡ c .before .before .sums-of .result = omega arith in
-    fit-is _ _ _ _ _ (c .before .before .before .terms-of .ensures) (c .before .before .sums-of .ensures) (sym (rw e at (c .before .loop .inv .2)))
+    fits-as _ _ _ _ _ (c .before .before .before .terms-of .ensures) (c .before .before .sums-of .ensures) (sym (rw e at (c .before .loop .inv .2)))
 
 pub sums-fit-spec : {M : Type 1} → statement M
 sums-fit-spec =

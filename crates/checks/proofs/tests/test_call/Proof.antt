@@ -1,12 +1,7 @@
 -- `checks::tests::test_call` meets its contract: a load's fault decides first. Assumes nothing.
-use Prim.Native.Nat.{ℕ}
-use mathlib.Core.Path.{_≡_, sym, _∙_, ap}
+use mathlib.Core.Path.{sym, _∙_}
 use borrow.Author.Needs.{needs}
-use Rattle.records.specs.Faults.{first}
 use Rattle.records.proofs.Tests.{met, passed}
-use Rattle.network.specs.declared.net.Network.{Network}
-use Rattle.bands.specs.State.{stateFault}
-use Rattle.checks.specs.Tests.{sumsFault}
 use Rattle.checks.proofs.Passed.{load-passed, call-is}
 use Rattle.checks.proofs.Rows.{decoded-rows}
 use Rattle.checks.proofs.tests.test_call.Statement.{statement}

@@ -1,5 +1,5 @@
 -- `checks::tests::test_load` meets its contract. Assumes nothing.
-use mathlib.Core.Path.{_≡_, refl, sym, _∙_, ap}
+use mathlib.Core.Path.{_∙_}
 use borrow.Author.Needs.{needs}
 use Rattle.checks.specs.Tests.{loadFault}
 use Rattle.checks.proofs.tests.test_load.Statement.{statement}
