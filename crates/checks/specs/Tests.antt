@@ -1,6 +1,6 @@
 -- The tests of the calls, in the order of the table: 0, or the refusal number.
 -- Assumes nothing.
-use Prim.Native.Nat.{ℕ, zero, suc, _+_, _-_, _*_}
+use Prim.Native.Nat.{ℕ, _+_, _*_}
 use mathlib.Core.Bool.{Bool, _&&_}
 use mathlib.Core.List.{List, [], _∷_}
 use lib.Dec.{leb, eqb}
@@ -11,7 +11,6 @@ use Rattle.records.specs.Layer.{sumsOf, termsOf}
 use Rattle.records.specs.declared.layer.Layer.{Layer}
 use Rattle.network.specs.Network.{layerOf, tensorOf}
 use Rattle.network.specs.Decode.{decodeOf}
-use Rattle.network.specs.Replace.{replaceFault}
 use Rattle.network.specs.declared.net.Network.{Network}
 use Rattle.bands.specs.Choice.{every}
 use Rattle.bands.specs.State.{stateFault, clean}
