@@ -1,0 +1,70 @@
+-- What an update recomputes, and how many bytes.
+-- Assumes nothing.
+use Prim.Native.Nat.{ℕ, zero, suc, _+_, _-_, _*_, _≤_}
+use mathlib.Core.Path.{_≡_}
+use mathlib.Core.Bool.{cond}
+use mathlib.Core.List.{List}
+use lib.ListN.{length}
+use Rattle.records.specs.declared.layer.Layer.{Layer}
+use Rattle.network.specs.Network.{layerOf, tensorOf, placeOf, zeroOf}
+use Rattle.network.specs.Taken.{Taken}
+use Rattle.network.specs.declared.net.Network.{Network}
+use Rattle.windows.specs.Lists.{pasted, joined}
+use Rattle.records.specs.Shape.{rowBytes}
+use Rattle.layers.specs.Row.{rowOf, tensorAt}
+use Rattle.layers.specs.Sums.{layerSums}
+use Rattle.bands.specs.Band.{inBand}
+use Rattle.bands.specs.State.{bandOf}
+use Rattle.bands.specs.Grow.{grown}
+use Rattle.bands.specs.declared.band.Band.{Band}
+use Rattle.bands.specs.declared.state.State.{State}
+use Rattle.checks.specs.Tensors.{linkOf}
+use Rattle.checks.specs.Tests.{sumsFault}
+
+-- the true sums of all layers in order: what load fills the store with
+abbrev pub networkSums : Network → List ℕ → List ℕ
+networkSums n file = joined (n .count) (λ m. layerSums (layerOf n m) file)
+
+-- row i of layer m, from the rows stored in the area and the sums stored
+abbrev pub rowFrom : Network → List ℕ → List ℕ → ℕ → List ℕ → ℕ → List ℕ
+rowFrom n file sums m area i =
+    rowOf (layerOf n m) (zeroOf n m) (zeroOf n (linkOf n m .other)) file sums
+    (tensorAt area (placeOf n m) (tensorOf n m))
+    (tensorAt area (placeOf n (linkOf n m .other)) (tensorOf n m))
+    i
+
+-- layer m's rows in a band recomputed in their places
+unfoldable pub redone : Network → List ℕ → List ℕ → ℕ → Band → List ℕ → List ℕ
+redone n file sums m b area =
+    pasted area (placeOf n (suc m) + b .first * rowBytes (tensorOf n (suc m)))
+    (joined (b .end - b .first) (λ k. rowFrom n file sums m area (b .first + k)))
+
+-- the band of tensor t, grown
+abbrev pub grownBandOf : Network → State → ℕ → Band
+grownBandOf n s t = bandOf (grown s (linkOf n) t) t
+
+-- the first m layers in order, each at the rows of its grown band
+unfoldable pub updatedTo : Network → List ℕ → List ℕ → State → ℕ → List ℕ → List ℕ
+updatedTo n file sums s zero area = area
+updatedTo n file sums s (suc m) area = redone n file sums m (grownBandOf n s (suc m)) (updatedTo n file sums s m area)
+
+-- the bytes of the rows below `rows` that are in a band, w bytes each
+unfoldable pub bytesIn : Band → ℕ → ℕ → ℕ
+bytesIn b zero w = 0
+bytesIn b (suc rows) w = bytesIn b rows w + cond (inBand b rows) w 0
+
+-- the total of bytes recomputed in the first m layers
+unfoldable pub countTo : Network → State → ℕ → ℕ
+countTo n s zero = 0
+countTo n s (suc m) = countTo n s m + bytesIn (grownBandOf n s (suc m)) (tensorOf n (suc m) .rows) (rowBytes (tensorOf n (suc m)))
+
+-- bands within the tensors, as test 5 leaves them
+abbrev pub Fair : Network → State → Type 0
+Fair n s = (t : ℕ) → t ≤ n .count → (bandOf s t .first ≤ bandOf s t .end) × (bandOf s t .end ≤ tensorOf n t .rows)
+
+-- what tests 1 to 6 leave for a run: the network of the file, sums within their bounds, room in the area
+pub record CanRun (file : List ℕ) (n : Network) (sums : List ℕ) (room : ℕ) : Type 0 where
+  pub taken : Taken file n
+  pub sums-in : n .store ≤ length sums
+  pub sums-fit : sumsFault n sums ≡ 0
+  pub area-in : n .area ≤ room
