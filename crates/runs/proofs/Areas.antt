@@ -17,11 +17,10 @@ use Rattle.windows.specs.Lists.{pasted, joined, part}
 use Rattle.windows.proofs.Pasted.{part-part, pasted-length, part-before, part-after, joined-length}
 use Rattle.layers.specs.Row.{rowOf, tensorAt}
 use Rattle.layers.proofs.Lengths.{row-length}
-use Rattle.bands.specs.State.{bandOf}
 use Rattle.bands.specs.declared.band.Band.{Band}
 use Rattle.bands.specs.declared.state.State.{State}
 use Rattle.checks.specs.Tensors.{linkOf}
-use Rattle.runs.specs.Run.{rowFrom, redone, grownBandOf, updatedTo, Fair, CanRun}
+use Rattle.runs.specs.Run.{rowFrom, redone, grownBandOf, updatedTo, Fair}
 use Rattle.runs.proofs.Fairs.{Fits, grown-fair}
 use Rattle.runs.proofs.Ready.{layer-shaped, input-before, other-before}
 

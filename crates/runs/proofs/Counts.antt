@@ -1,20 +1,17 @@
 -- How many bytes an update recomputes.
 -- Assumes nothing.
-use Prim.Native.Nat.{ℕ, zero, suc, _+_, _-_, _*_, _≤_, _<_, min}
-use mathlib.Core.Path.{_≡_, refl, sym, _∙_, ap}
-use mathlib.Core.Bool.{true, false, cond}
+use Prim.Native.Nat.{ℕ, zero, suc, _+_, _-_, _*_, _≤_, min}
+use mathlib.Core.Path.{_≡_, _∙_, ap}
 use mathlib.Core.List.{List}
 use native.Mathlib.Nat.{mul-le-mul-right}
 use native.Mathlib.Omega.{arith}
 use native.Mathlib.Decide.{decLe, decLt}
 use Rattle.records.specs.Shape.{bytesOf, rowBytes}
 use Rattle.records.specs.declared.shape.Shape.{Shape}
-use Rattle.network.specs.Network.{layerOf, tensorOf, placeOf}
+use Rattle.network.specs.Network.{tensorOf, placeOf}
 use Rattle.network.specs.Taken.{Taken}
 use Rattle.network.specs.declared.net.Network.{Network}
 use Rattle.network.proofs.Places.{tensors-in}
-use Rattle.bands.specs.Band.{inBand}
-use Rattle.bands.specs.State.{bandOf}
 use Rattle.bands.specs.Within.{In}
 use Rattle.bands.specs.declared.band.Band.{Band}
 use Rattle.bands.specs.declared.state.State.{State}

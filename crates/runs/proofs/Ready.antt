@@ -1,13 +1,13 @@
 -- A layer of a network that can run is ready for its rows.
 -- Assumes nothing.
-use Prim.Native.Nat.{ℕ, zero, suc, _+_, _*_, _≤_, _<_, _^_}
-use mathlib.Core.Path.{_≡_, sym, _∙_, ap, subst}
+use Prim.Native.Nat.{ℕ, suc, _+_, _*_, _≤_, _<_, _^_}
+use mathlib.Core.Path.{_≡_, sym, ap}
 use mathlib.Core.List.{List}
 use native.Mathlib.Omega.{arith}
 use lib.IntN.{natAbs}
 use lib.ListN.{length, getD}
 use Rattle.records.specs.Bytes.{i32At}
-use Rattle.records.specs.Shape.{bytesOf, GoodShape}
+use Rattle.records.specs.Shape.{bytesOf}
 use Rattle.records.specs.Stored.{storedLen}
 use Rattle.records.specs.Layer.{sumsOf, termsOf, fixedOf}
 use Rattle.records.specs.declared.shape.Shape.{Shape}
@@ -18,7 +18,7 @@ use Rattle.network.specs.Network.{layerOf, tensorOf, placeOf}
 use Rattle.network.specs.Taken.{KindTaken, Taken}
 use Rattle.network.specs.declared.net.Network.{Network}
 use Rattle.network.proofs.Bounds.{terms-few}
-use Rattle.network.proofs.Places.{tensors-apart, tensors-in}
+use Rattle.network.proofs.Places.{tensors-apart}
 use Rattle.layers.specs.Outputs.{OutputsReady}
 use Rattle.layers.specs.Conv.{convOutputs}
 use Rattle.layers.specs.Full.{fullOutputs}

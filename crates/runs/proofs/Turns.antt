@@ -34,10 +34,11 @@ module _ {file : List ℕ} {n : Network} {sums : List ℕ} (area : List ℕ) (m 
       let t = run .taken in
       (omega (arith, t .count-few), input-good file n t m h .rows-few, t .shapes (suc m) h .rows-few)
 
-  -- the second input's tensor is one of the network's
-  pub other-few : {link : Link} → link ≡ linkOf n m → link .other ≤ 16
-  other-few e =
-      omega (arith, run .taken .count-few, link-ok file n (run .taken) m h .other-before, ap (λ (x : Link). x .other) e)
+  -- both inputs are tensors of the network
+  pub inputs-there : {link : Link} → link ≡ linkOf n m → (m ≤ 16) × (link .other ≤ 16)
+  inputs-there e =
+      let first : m ≤ 16 = omega (arith, run .taken .count-few) in
+      (first, omega (arith, first, link-ok file n (run .taken) m h .other-before, ap (λ (x : Link). x .other) e))
 
   -- what the growth's code needs
   pub grow-needs :
@@ -70,7 +71,7 @@ module _ {file : List ℕ} {n : Network} {sums : List ℕ} (area : List ℕ) (m 
       y ≡ layerOf n m →
       Fits (y .output .rows) b →
       w ≡ y .output .columns * y .output .channels →
-      (b .end - b .first ≤ 131072) × (w ≤ 16384)
+      (b .end ≤ 131072) × (w ≤ 16384)
   unfolding bytesOf
   count-needs b {w = w} ey f ew =
       let g = run .taken .shapes (suc m) h in

@@ -1,6 +1,6 @@
 -- `runs::run::run` meets its contract. The loop's invariant: the first m layers are recomputed.
 -- Assumes nothing.
-use Prim.Native.Nat.{ℕ, _-_}
+use Prim.Native.Nat.{ℕ, _-_, _<_}
 use mathlib.Core.Path.{_≡_, sym, _∙_}
 use native.Mathlib.Omega.{arith}
 use denote.Ref.{now}
@@ -18,6 +18,10 @@ abbrev μ-loop : tie.MeasureT-loop
 loop-holds : tie.Need-loop-holds Inv-loop μ-loop
 loop-holds c = (run-none _ _, length-replicate {A = ℕ} 12544 0)
 
+-- the loop's layer is one of the network's
+there : (c : tie.In-loop Inv-loop μ-loop) → c .before .loop .m < c .before .before .before .before .before .args .n .count
+there c = omega (arith, c .before .before .before .before .before .pre .0 .taken .count-some)
+
 slice-aggregate-run-layer : tie.Need-slice-aggregate-run-layer Inv-loop μ-loop
 slice-aggregate-run-layer c = sym (c .before .before .before .loop .inv .1)
 
@@ -26,25 +30,25 @@ run-layer-requires c κs =
     let p = c .before .before .before .before .before .before .before in
     let v = c .before .before .before .loop .inv in
     let w = step-needs (p .args .s) (now (p .args .area)) (p .pre .0) (p .pre .1) (v .0) in
-    (w .0, (w .1, (c .before .before .loop-test .taken, omega (arith, v .1))))
+    (w .0, (w .1, (there (c .before .before), omega (arith, v .1))))
 
 add-count : tie.Need-add-count Inv-loop μ-loop
 add-count c =
     let p = c .before .before .before .before .before .before .before .before .before .before .before .before .before in
-    omega (arith, turn-count (p .args .s) (now (p .args .area)) (c .before .before .before .before .before .before .before .before .before .loop .m) (c .before .before .before .before .before .before .before .before .before .loop .inv .0) (c .before .before .before .before .before .run-layer .ensures .0) (c .before .before .before .before .before .run-layer .ensures .1 .0) (p .pre .0) (c .before .before .before .before .before .before .before .before .loop-test .taken))
+    omega (arith, turn-count (p .args .s) (now (p .args .area)) (c .before .before .before .before .before .before .before .before .before .loop .m) (c .before .before .before .before .before .before .before .before .before .loop .inv .0) (c .before .before .before .before .before .run-layer .ensures .0) (c .before .before .before .before .before .run-layer .ensures .1 .0) (p .pre .0) (there (c .before .before .before .before .before .before .before .before)))
 
 add-m : tie.Need-add-m Inv-loop μ-loop
 add-m c = omega (arith, c .before .before .before .before .before .before .before .before .before .before .before .before .before .pre .0 .taken .count-few)
 
 loop-less : tie.Need-loop-less Inv-loop μ-loop
-loop-less c = omega arith
+loop-less c = omega (arith, there (c .before .before .before .before .before .before .before .before))
 
 loop-again : tie.Need-loop-again Inv-loop μ-loop
 loop-again c =
     let p = c .before .before .before .before .before .before .before .before .before .before .before .before .before in
     let v = c .before .before .before .before .before .before .before .before .before .loop .inv in
     let r = c .before .before .before .before .before .run-layer in (
-      run-turn (p .args .s) (now (p .args .area)) (c .before .before .before .before .before .before .before .before .before .loop .m) (v .0) (r .ensures .0) (r .ensures .1 .0) (c .before .before .before .before .before .before .before .before .loop-test .taken) (r .ensures .1 .1) (r .kept .1 .1 .1 .0),
+      run-turn (p .args .s) (now (p .args .area)) (c .before .before .before .before .before .before .before .before .before .loop .m) (v .0) (r .ensures .0) (r .ensures .1 .0) (there (c .before .before .before .before .before .before .before .before)) (r .ensures .1 .1) (r .kept .1 .1 .1 .0),
       r .kept .1 .1 .1 .1 .0 ∙ v .1,
     )
 

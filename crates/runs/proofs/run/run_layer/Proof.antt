@@ -6,7 +6,7 @@ use native.Mathlib.Omega.{arith}
 use denote.Ref.{now}
 use borrow.Author.Needs.{needs}
 use Rattle.runs.proofs.Fairs.{Fits}
-use Rattle.runs.proofs.Turns.{link-needs, other-few, grow-needs, front-size, row-needs, count-needs, ready-now, state-now, band-fits, count-now, area-now}
+use Rattle.runs.proofs.Turns.{link-needs, inputs-there, grow-needs, front-size, row-needs, count-needs, ready-now, state-now, band-fits, count-now, area-now}
 use Rattle.runs.proofs.run.run_layer.Statement.{statement}
 use Rattle.runs.proofs.run.run_layer.Tie as tie
 
@@ -42,21 +42,16 @@ fits c =
     band-fits (now (p .args .area)) (p .args .m) (p .pre .0) (p .pre .1 .1 .0) (p .args .s) (p .pre .1 .0) (c .before .before .link-of .ensures) (c .before .grow-one .ensures) (c .band-of .ensures) (c .before .before .before .layer .ensures)
 
 -- both inputs are tensors of the network
-first-there : (c : tie.After-link-of) → c .before .before .before .before .before .before .args .m ≤ 16
-first-there c =
+there : (c : tie.After-link-of) → (c .before .before .before .before .before .before .args .m ≤ 16) × (c .link-of .result .other ≤ 16)
+there c =
     let p = c .before .before .before .before .before .before in
-    omega (arith, link-needs (now (p .args .area)) (p .args .m) (p .pre .0) (p .pre .1 .1 .0) .0)
-
-second-there : (c : tie.After-link-of) → c .link-of .result .other ≤ 16
-second-there c =
-    let p = c .before .before .before .before .before .before in
-    other-few (now (p .args .area)) (p .args .m) (p .pre .0) (p .pre .1 .1 .0) (c .link-of .ensures)
+    inputs-there (now (p .args .area)) (p .args .m) (p .pre .0) (p .pre .1 .1 .0) (c .link-of .ensures)
 
 zero-point-requires : tie.Need-zero-point-requires
-zero-point-requires c κs = first-there (c .before .before .before .before)
+zero-point-requires c κs = omega (arith, there (c .before .before .before .before))
 
 zero-point-requires-2 : tie.Need-zero-point-requires-2
-zero-point-requires-2 c κs = second-there (c .before .before .before .before .before)
+zero-point-requires-2 c κs = omega (arith, there (c .before .before .before .before .before))
 
 slice-relend-prefix-put-rows : tie.Need-slice-relend-prefix-put-rows
 slice-relend-prefix-put-rows c = search needs
@@ -67,19 +62,22 @@ slice-aggregate-put-rows c =
     sym (front-size (now (p .args .area)) (p .args .m) (p .pre .0) (p .pre .1 .1 .0))
 
 place-requires : tie.Need-place-requires
-place-requires c κs = first-there (c .before .before .before .before .before .before .before .before)
+place-requires c κs = omega (arith, there (c .before .before .before .before .before .before .before .before))
 
 place-requires-2 : tie.Need-place-requires-2
-place-requires-2 c κs = second-there (c .before .before .before .before .before .before .before .before .before)
+place-requires-2 c κs = omega (arith, there (c .before .before .before .before .before .before .before .before .before))
 
 put-rows-requires : tie.Need-put-rows-requires
 put-rows-requires c κs =
-    let p = c .before .before .before .before .before .before .before .before .before .before .before .before .before .before .before .before in
-    let f = fits (c .before .before .before .before .before .before .before .before) in
-    (ready-now (now (p .args .area)) (p .args .m) (p .pre .0) (p .pre .1 .1 .0) (c .before .before .before .before .before .before .before .before .before .before .before .layer .ensures) (c .before .before .before .before .before .before .before .before .before .before .link-of .ensures) (c .before .place .ensures) (c .place2 .ensures), (f .0, f .1, p .pre .1 .1 .1))
+    let b = c .before .before .before .before .before .before .before .before in
+    let p = b .before .before .before .before .before .before .before .before in
+    let f = fits b in (
+      ready-now (now (p .args .area)) (p .args .m) (p .pre .0) (p .pre .1 .1 .0) (b .before .before .before .layer .ensures) (b .before .before .link-of .ensures) (c .before .place .ensures) (c .place2 .ensures),
+      (omega (arith, f), omega (arith, f), p .pre .1 .1 .1),
+    )
 
 sub-times : tie.Need-sub-times
-sub-times c = fits (c .before .before .before .before .before .before .before .before .before .before .before .before .before .before) .0
+sub-times c = omega (arith, fits (c .before .before .before .before .before .before .before .before .before .before .before .before .before .before))
 
 times-requires : tie.Need-times-requires
 times-requires c κs =
@@ -88,8 +86,10 @@ times-requires c κs =
 
 times-requires-2 : tie.Need-times-requires-2
 times-requires-2 c κs =
-    let p = c .before .before .before .before .before .before .before .before .before .before .before .before .before .before .before .before .before .before .before .before .before .before .before in
-    count-needs (now (p .args .area)) (p .args .m) (p .pre .0) (p .pre .1 .1 .0) (c .before .before .before .before .before .before .before .before .before .before .before .before .before .before .before .band-of .result) (c .before .before .before .before .before .before .before .before .before .before .before .before .before .before .before .before .before .before .layer .ensures) (fits (c .before .before .before .before .before .before .before .before .before .before .before .before .before .before .before)) (c .times .ensures .0)
+    let b = c .before .before .before .before .before .before .before .before .before .before .before .before .before .before .before in
+    let p = b .before .before .before .before .before .before .before .before in
+    let few = count-needs (now (p .args .area)) (p .args .m) (p .pre .0) (p .pre .1 .1 .0) (b .band-of .result) (b .before .before .before .layer .ensures) (fits b) (c .times .ensures .0) in
+    (omega (arith, few), few .1)
 
 cast-t27 : tie.Need-cast-t27
 cast-t27 c = search needs
@@ -102,11 +102,12 @@ same-length-2 c = search needs
 
 returns : tie.Need-returns
 returns c =
-    let p = c .before .before .before .before .before .before .before .before .before .before .before .before .before .before .before .before .before .before .before .before .before .before .before .before in (
-      state-now (now (p .args .area)) (p .args .m) (p .pre .0) (p .pre .1 .1 .0) (p .args .s) (p .pre .1 .0) (c .before .before .before .before .before .before .before .before .before .before .before .before .before .before .before .before .before .before .link-of .ensures) (c .before .before .before .before .before .before .before .before .before .before .before .before .before .before .before .before .before .grow-one .ensures) (c .before .before .before .before .before .before .before .before .before .before .before .before .before .before .before .before .band-of .ensures),
+    let b = c .before .before .before .before .before .before .before .before .before .before .before .before .before .before .before .before in
+    let p = b .before .before .before .before .before .before .before .before in (
+      state-now (now (p .args .area)) (p .args .m) (p .pre .0) (p .pre .1 .1 .0) (p .args .s) (p .pre .1 .0) (b .before .before .link-of .ensures) (b .before .grow-one .ensures) (b .band-of .ensures),
       (
-        count-now (now (p .args .area)) (p .args .m) (p .pre .0) (p .pre .1 .1 .0) (p .args .s) (p .pre .1 .0) (c .before .before .before .before .before .before .before .before .before .before .before .before .before .before .before .before .before .before .link-of .ensures) (c .before .before .before .before .before .before .before .before .before .before .before .before .before .before .before .before .before .grow-one .ensures) (c .before .before .before .before .before .before .before .before .before .before .before .before .before .before .before .before .band-of .ensures) (c .before .before .before .before .before .before .before .before .before .before .before .before .before .before .before .before .before .before .before .layer .ensures) (c .before .times .ensures .0) (c .times2 .ensures .0),
-        area-now (now (p .args .area)) (p .args .m) (p .pre .0) (p .pre .1 .1 .0) (p .args .s) (p .pre .1 .0) (c .before .before .before .before .before .before .before .before .before .before .before .before .before .before .before .before .before .before .link-of .ensures) (c .before .before .before .before .before .before .before .before .before .before .before .before .before .before .before .before .before .grow-one .ensures) (c .before .before .before .before .before .before .before .before .before .before .before .before .before .before .before .before .band-of .ensures) (c .before .before .before .before .before .before .before .before .before .before .before .before .before .before .before .before .before .before .before .layer .ensures) (c .before .before .before .before .before .before .before .before .before .before .before .before .before .zero-point .ensures) (c .before .before .before .before .before .before .before .before .before .before .before .before .zero-point2 .ensures) (c .before .before .before .before .before .before .before .before .before .place .ensures) (c .before .before .before .before .before .before .before .before .place2 .ensures) (c .before .before .before .before .before .before .before .put-rows .ensures),
+        count-now (now (p .args .area)) (p .args .m) (p .pre .0) (p .pre .1 .1 .0) (p .args .s) (p .pre .1 .0) (b .before .before .link-of .ensures) (b .before .grow-one .ensures) (b .band-of .ensures) (b .before .before .before .layer .ensures) (c .before .times .ensures .0) (c .times2 .ensures .0),
+        area-now (now (p .args .area)) (p .args .m) (p .pre .0) (p .pre .1 .1 .0) (p .args .s) (p .pre .1 .0) (b .before .before .link-of .ensures) (b .before .grow-one .ensures) (b .band-of .ensures) (b .before .before .before .layer .ensures) (c .before .before .before .before .before .before .before .before .before .before .before .before .before .zero-point .ensures) (c .before .before .before .before .before .before .before .before .before .before .before .before .zero-point2 .ensures) (c .before .before .before .before .before .before .before .before .before .place .ensures) (c .before .before .before .before .before .before .before .before .place2 .ensures) (c .before .before .before .before .before .before .before .put-rows .ensures),
       ),
     )
 
