@@ -1,0 +1,141 @@
+-- `clew::replacing::replace_layer` meets its contract.
+-- Assumes nothing.
+use Prim.Native.Nat.{_-_, _≤_, _<_}
+use native.Mathlib.Omega.{arith}
+use denote.Ref.{now}
+use lib.ListN.{length}
+use Rattle.records.proofs.Tests.{met, passed}
+use Rattle.clew.proofs.Answers.{replace-refused, replace-done}
+use Rattle.clew.proofs.Entered.{Entered, entered}
+use Rattle.clew.proofs.Rooms.{layer-there, layer-fits, record-there, record-fits, sums-fit, output-few}
+use borrow.Author.Needs.{needs}
+use Rattle.clew.proofs.replacing.replace_layer.Statement.{statement}
+use Rattle.clew.proofs.replacing.replace_layer.Tie as tie
+
+test-call-requires : tie.Need-test-call-requires
+test-call-requires c κs = search needs
+
+plain-requires : tie.Need-plain-requires
+plain-requires c κs = search needs
+
+same-length : tie.Need-same-length
+same-length c = search needs
+
+same-length-2 : tie.Need-same-length-2
+same-length-2 c = search needs
+
+-- tests 1 to 6 passed
+inside : (c : tie.Else1) → Entered (now (c .before .before .before .before .before .before .before .before .before .before .args .file)) (now (c .before .before .before .before .before .before .before .before .before .before .args .sums)) (length (now (c .before .before .before .before .before .before .before .before .before .before .args .area))) (c .before .before .before .before .before .before .before .before .before .before .args .state) (c .before .before .before .test-call .result .network)
+inside c = entered _ _ _ _ (c .before .before .before .test-call .ensures) (c .if1 .left)
+
+-- test 7 passed: the layer is there
+there : (c : tie.Else2) → (1 ≤ c .before .before .before .before .before .before .before .before .before .before .before .before .args .number) × (c .before .before .before .before .before .before .before .before .before .before .before .before .args .number - 1 < c .before .before .before .before .before .test-call .result .network .count)
+there c = layer-there _ _ (c .before .layer-fault .ensures) (c .if2 .left)
+
+returns : tie.Need-returns
+returns c = replace-refused _ _ _ _ _ _ (met _ _ _ (c .before .before .before .before .test-call .ensures .0) (c .before .if1 .taken)) (c .before .if1 .taken) (c .plain .ensures)
+
+layer-fault-requires : tie.Need-layer-fault-requires
+layer-fault-requires c κs = search needs
+
+plain-requires-2 : tie.Need-plain-requires-2
+plain-requires-2 c κs = search needs
+
+same-length-3 : tie.Need-same-length-3
+same-length-3 c = search needs
+
+same-length-4 : tie.Need-same-length-4
+same-length-4 c = search needs
+
+returns-2 : tie.Need-returns-2
+returns-2 c =
+    replace-refused _ _ _ _ _ _
+    (passed _ _ _ _ (c .before .before .before .before .before .before .test-call .ensures .0) (c .before .before .before .if1 .left)
+    (met _ _ _ (rw (c .before .before .before .before .before .before .test-call .ensures .1) at (c .before .before .layer-fault .ensures)) (c .before .if2 .taken)))
+    (c .before .if2 .taken) (c .plain2 .ensures)
+
+sub-layer : tie.Need-sub-layer
+sub-layer c = there c .0
+
+layer-requires : tie.Need-layer-requires
+layer-requires c κs = omega (arith, there c, inside (c .before .before) .can .taken .count-few)
+
+record-end-requires : tie.Need-record-end-requires
+record-end-requires c κs = layer-fits (inside (c .before .before .before .before) .can) (there (c .before .before) .1) (c .before .layer .ensures)
+
+replace-fault-requires : tie.Need-replace-fault-requires
+replace-fault-requires c κs = (c .record-end .ensures, rw (c .record-end .ensures) (record-there (inside (c .before .before .before .before .before) .can) (there (c .before .before .before) .1) (c .before .before .layer .ensures)))
+
+plain-requires-3 : tie.Need-plain-requires-3
+plain-requires-3 c κs = search needs
+
+same-length-5 : tie.Need-same-length-5
+same-length-5 c = search needs
+
+same-length-6 : tie.Need-same-length-6
+same-length-6 c = search needs
+
+returns-3 : tie.Need-returns-3
+returns-3 c =
+    replace-refused _ _ _ _ _ _
+    (passed _ _ _ _ (c .before .before .before .before .before .before .before .before .before .before .before .test-call .ensures .0) (c .before .before .before .before .before .before .before .before .if1 .left)
+    (passed _ _ _ _ (rw (c .before .before .before .before .before .before .before .before .before .before .before .test-call .ensures .1) at (c .before .before .before .before .before .before .before .layer-fault .ensures)) (c .before .before .before .before .before .before .if2 .left)
+    (rw (c .before .before .before .before .before .layer .ensures, c .before .before .before .before .before .before .before .before .before .before .before .test-call .ensures .1) at (c .before .before .replace-fault .ensures))))
+    (c .before .if3 .taken) (c .plain3 .ensures)
+
+copy-in-requires : tie.Need-copy-in-requires
+copy-in-requires c κs = record-fits (inside (c .before .before .before .before .before .before .before .before) .can) (there (c .before .before .before .before .before .before) .1) (c .before .before .before .before .before .layer .ensures) _ (c .before .before .replace-fault .ensures) (c .before .if3 .left)
+
+put-sums-requires : tie.Need-put-sums-requires
+put-sums-requires c κs = sums-fit (inside (c .before .before .before .before .before .before .before .before .before .before .before .before .before) .can) (there (c .before .before .before .before .before .before .before .before .before .before .before) .1) (c .before .before .before .before .before .before .before .before .before .before .layer .ensures) (c .before .before .before .before .copy-in .last .1 .0) (c .before .before .before .before .copy-in .kept .1 .0)
+
+cast-after-replace : tie.Need-cast-after-replace
+cast-after-replace c = omega (arith, output-few (inside (c .before .before .before .before .before .before .before .before .before .before .before .before .before .before .before .before .before .before) .can) (there (c .before .before .before .before .before .before .before .before .before .before .before .before .before .before .before .before) .1) (c .before .before .before .before .before .before .before .before .before .before .before .before .before .before .before .layer .ensures))
+
+after-replace-requires : tie.Need-after-replace-requires
+after-replace-requires c κs = omega (arith, there (c .before .before .before .before .before .before .before .before .before .before .before .before .before .before .before .before), inside (c .before .before .before .before .before .before .before .before .before .before .before .before .before .before .before .before .before .before) .can .taken .count-few)
+
+plain-requires-4 : tie.Need-plain-requires-4
+plain-requires-4 c κs = search needs
+
+same-length-7 : tie.Need-same-length-7
+same-length-7 c = search needs
+
+same-length-8 : tie.Need-same-length-8
+same-length-8 c = search needs
+
+returns-4 : tie.Need-returns-4
+returns-4 c =
+    replace-done _ _ _ _ _ _ (inside (c .before .before .before .before .before .before .before .before .before .before .before .before .before .before .before .before .before .before .before .before)) (c .before .before .before .before .before .before .before .before .before .before .before .before .before .before .before .before .before .before .before .layer-fault .ensures) (c .before .before .before .before .before .before .before .before .before .before .before .before .before .before .before .before .before .before .if2 .left) (c .before .before .before .before .before .before .before .before .before .before .before .before .before .before .before .before .before .layer .ensures) (c .before .before .before .before .before .before .before .before .before .before .before .before .before .before .replace-fault .ensures) (c .before .before .before .before .before .before .before .before .before .before .before .before .before .if3 .left)
+    (c .plain4 .ensures) (c .before .after-replace .ensures) (c .before .before .before .before .before .before .before .before .before .before .before .copy-in .ensures) (c .before .before .before .before .before .before .put-sums .ensures)
+
+pub replace-layer-spec : {M : Type 1} → statement M
+replace-layer-spec =
+    tie.close
+    (tie.spec
+    test-call-requires
+    plain-requires
+    same-length
+    same-length-2
+    returns
+    layer-fault-requires
+    plain-requires-2
+    same-length-3
+    same-length-4
+    returns-2
+    sub-layer
+    layer-requires
+    record-end-requires
+    replace-fault-requires
+    plain-requires-3
+    same-length-5
+    same-length-6
+    returns-3
+    copy-in-requires
+    put-sums-requires
+    cast-after-replace
+    after-replace-requires
+    plain-requires-4
+    same-length-7
+    same-length-8
+    returns-4)

@@ -1,0 +1,2 @@
+-- The definitions that the five calls' promises cite.
+pub mod Calls
