@@ -125,7 +125,7 @@ module _ (L : Model (List ℕ)) (Y : Layout) where
           ∙ rows-out k (omega arith) t j ht hj (λ e h. ne e (omega arith))
 
       -- layer m's row from what is stored then is its row from what was stored at first
-      row-then : (k i : ℕ) → f + k ≤ L .rows (suc m) → i < L .rows (suc m) → L .rowOf N m (view Y (redoRows L Y N m f k A)) i ≡ L .rowOf N m (view Y A) i
+      pub row-then : (k i : ℕ) → f + k ≤ L .rows (suc m) → i < L .rows (suc m) → L .rowOf N m (view Y (redoRows L Y N m f k A)) i ≡ L .rowOf N m (view Y A) i
       row-then k i hk hi =
           law .row-local N N (view Y (redoRows L Y N m f k A)) (view Y A) m i hm hi refl refl refl
           (λ t r x hr.

@@ -90,7 +90,7 @@ kind-ready file n m y sums (Fully f) t terms short inside biases within small = 
 kind-ready file n m y sums (Addition a) t terms short inside biases within small = record { ok = t .ok; output = t .output }
 
 -- a second input, or the first where there is one, has the shape of the first
-other-shape : (file : List ℕ) (n : Network) (m : ℕ) (y : Layer) (k : Kind) → KindTaken file n m y k → y .input ≡ tensorOf n m →
+pub other-shape : (file : List ℕ) (n : Network) (m : ℕ) (y : Layer) (k : Kind) → KindTaken file n m y k → y .input ≡ tensorOf n m →
     (linkBy k y m .other ≤ m) × (tensorOf n (linkBy k y m .other) ≡ y .input)
 other-shape file n m y (Convolution c) t e = (omega arith, sym e)
 other-shape file n m y (Fully f) t e = (omega arith, sym e)

@@ -1,0 +1,170 @@
+-- Demand 2: with true weight sums each row is the direct one, no total leaves signed 32 bits, and how far a rescaled number is from the exact
+-- product.
+-- Assumes nothing.
+use Prim.Native.Nat.{ℕ, _+_, _*_, _^_, _≤_, _<_}
+use mathlib.Core.Path.{_≡_, refl, sym, _∙_, ap}
+use mathlib.Core.List.{List, [], _∷_}
+use native.Mathlib.Nat.{mul-le-mul-right}
+use native.Mathlib.Omega.{arith}
+use lib.IntN.{pos, natAbs, _-ℤ_, _*ℤ_}
+use lib.ListN.{length, getD}
+use Rattle.numbers.specs.Total.{sum}
+use Rattle.numbers.specs.Addition.{offset}
+use Rattle.numbers.proofs.Whole.{nat, less, times, size}
+use Rattle.numbers.proofs.Rescaled.{distance}
+use Rattle.numbers.proofs.Added.{offset-small, sum-small}
+use Rattle.records.specs.Shape.{bytesOf}
+use Rattle.records.specs.Layer.{sumsOf, termsOf, fixedOf}
+use Rattle.records.specs.declared.layer.Kind.{Kind}
+use Rattle.records.specs.declared.layer.Kind.the-variants.{Convolution, Fully, Addition}
+use Rattle.records.specs.declared.conv.Conv.{Conv}
+use Rattle.records.specs.declared.layer.Layer.{Layer}
+use Rattle.records.specs.declared.layer.Scale.{Scale}
+use Rattle.windows.specs.Window.{windowOf}
+use Rattle.windows.proofs.Bytes.{Bytes, bytes-take, bytes-drop}
+use Rattle.windows.proofs.Pasted.{part-length, joined-same}
+use Rattle.windows.proofs.Windows.{window-length, window-bytes}
+use Rattle.network.specs.Network.{layerOf, tensorOf, placeOf, zeroOf}
+use Rattle.network.specs.Decode.{decodeOf}
+use Rattle.network.specs.Taken.{KindTaken}
+use Rattle.network.specs.declared.net.Network.{Network}
+use Rattle.network.proofs.Bounds.{conv-bytes, full-bytes, zeros-few}
+use Rattle.layers.specs.Outputs.{weightsOf, outputsOf, OutputsReady}
+use Rattle.layers.specs.Conv.{windowFor, convOutputs, convRow}
+use Rattle.layers.specs.Full.{fullOutputs}
+use Rattle.layers.specs.Row.{tensorAt, rowBy, KindReady, Ready}
+use Rattle.layers.specs.declared.outputs.Outputs.{Outputs}
+use Rattle.layers.proofs.Convs.{size-is}
+use Rattle.layers.proofs.Direct.{output-direct, sum-true, total-within}
+use Rattle.layers.proofs.Totals.{ready-any}
+use Rattle.bands.specs.declared.state.State.{State}
+use Rattle.checks.specs.Tensors.{linkOf}
+use Rattle.checks.specs.Tests.{callFault}
+use Rattle.checks.proofs.Passed.{call-passed}
+use Rattle.checks.proofs.Links.{link-ok}
+use Rattle.runs.specs.Run.{CanRun}
+use Rattle.runs.proofs.Ready.{layer-ready}
+use Rattle.facts.specs.Demand2.{directOutputs, directBy, DirectRows, TotalsBy, TotalsFit, Distances}
+
+-- the outputs at a window, with the true sums of their weights
+outputs-direct :
+    (o : Outputs) (file sums q : List ℕ) (n : ℕ)
+    → length q ≡ n
+    → OutputsReady o n file sums
+    → ((f : ℕ) → f < o .count → getD sums (o .sums + f) 0 ≡ sum (weightsOf file (o .weights) n f))
+    → outputsOf o file sums q ≡ directOutputs o file q
+unfolding outputsOf
+outputs-direct o file sums q n e r s =
+    joined-same (o .count) (λ f h.
+    let standing = mul-le-mul-right {m = f + 1} {n = o .count} n (omega arith) in
+    ap (λ x. x ∷ []) (output-direct o file sums q (length q) f refl (rw e (omega (arith, r .weights-in, standing))) (rw e (s f h))))
+
+-- the window of a convolution, over a tensor of its input's size
+conv-window :
+    (y : Layer) (c : Conv) (z : ℕ) (t : List ℕ) (i j : ℕ)
+    → length t ≡ bytesOf (y .input)
+    → length (windowOf (windowFor y c z) t i j) ≡ c .height * c .width * y .input .channels
+conv-window y c z t i j e = window-length (windowFor y c z) t i j (e ∙ sym (size-is y c z refl))
+
+-- a row of a layer that is ready, from a tensor of its input's size
+direct-by :
+    (k : Kind) (y : Layer) (z z′ : ℕ) (file sums t t′ : List ℕ) (i : ℕ)
+    → KindReady k y file sums
+    → length t ≡ bytesOf (y .input)
+    → ((f : ℕ) → f < sumsOf k → getD sums (y .sums + f) 0 ≡ sum (weightsOf file (y .start + fixedOf k + 4 * sumsOf k) (termsOf k (y .input)) f))
+    → rowBy k y z z′ file sums t t′ i ≡ directBy k y z z′ file t t′ i
+unfolding convRow
+direct-by (Convolution c) y z z′ file sums t t′ i r e s =
+    joined-same (y .output .columns) (λ j h.
+    outputs-direct (convOutputs y c z) file sums _ _ (conv-window y c z t _ _ e) (ready-any (convOutputs y c 0) z _ (r .outputs)) s)
+direct-by (Fully f) y z z′ file sums t t′ i r e s =
+    outputs-direct (fullOutputs y f z) file sums t _ e (ready-any (fullOutputs y f 0) z _ (r .outputs)) s
+direct-by (Addition a) y z z′ file sums t t′ i r e s = refl
+
+-- what an add works with, before it is rescaled
+scaled-small : (q z : ℕ) → q ≤ 255 → z ≤ 255 → natAbs ((pos q -ℤ pos z) *ℤ pos (2 ^ 20)) ≤ 2 ^ 28
+scaled-small q z hq hz = omega (arith, size (times (less (nat q) (nat z)) (nat (2 ^ 20))))
+
+-- and after it is
+offset-most : (q z : ℕ) (x : Scale) → q ≤ 255 → z ≤ 255 → x .multiplier ≤ 2147483647 → natAbs (offset q z (x .multiplier) (x .shift)) ≤ 2 ^ 28
+offset-most q z x hq hz hm = omega (arith, offset-small q z (x .multiplier) (x .shift) hq hz (omega arith))
+
+-- the totals of a layer that is ready, from a tensor of bytes
+totals-by :
+    (k : Kind) (n : Network) (m : ℕ) (y : Layer) (z z′ : ℕ) (file sums t : List ℕ)
+    → KindTaken file n m y k
+    → KindReady k y file sums
+    → Bytes file
+    → Bytes t
+    → length t ≡ bytesOf (y .input)
+    → z ≤ 255
+    → z′ ≤ 255
+    → TotalsBy k y z z′ file sums t
+totals-by (Convolution c) n m y z z′ file sums t taken r bf bt e hz hz′ = λ i j f h.
+    total-within (convOutputs y c z) file sums (windowOf (windowFor y c z) t i j) _ f (ready-any (convOutputs y c 0) z _ (r .outputs)) h
+    (conv-window y c z t i j e) (window-bytes (windowFor y c z) t i j bt hz) bf hz (conv-bytes file bf y c taken .0)
+totals-by (Fully g) n m y z z′ file sums t taken r bf bt e hz hz′ = λ f h.
+    total-within (fullOutputs y g z) file sums t _ f (ready-any (fullOutputs y g 0) z _ (r .outputs)) h e bt bf hz (full-bytes file bf y g taken .0)
+totals-by (Addition a) n m y z z′ file sums t taken r bf bt e hz hz′ = λ q q′ hq hq′. (
+  scaled-small q z hq hz,
+  scaled-small q′ z′ hq′ hz′,
+  sum-small (offset q z (a .first .multiplier) (a .first .shift)) (offset q′ z′ (a .second .multiplier) (a .second .shift))
+      (offset-most q z (a .first) hq hz (r .ok .first-multiplier))
+      (offset-most q′ z′ (a .second) hq′ hz′ (r .ok .second-multiplier)),
+)
+
+-- ---- a call that passes tests 1 to 6, and a layer of its network
+
+-- what its run rests on
+pub can-run :
+    (file sums : List ℕ) (room : ℕ) (s : State)
+    → callFault file sums room s ≡ 0
+    → CanRun file (decodeOf file .network) sums room
+can-run file sums room s p =
+    let c = call-passed file sums room s p in
+    record { taken = c .load .taken; sums-in = c .load .store-in; sums-fit = c .sums-fit; area-in = c .load .area-in }
+
+module _ (file sums area : List ℕ) (s : State) (p : callFault file sums (length area) s ≡ 0) (m : ℕ) (h : m < decodeOf file .network .count) where
+  -- the network that the file holds
+  abbrev net : Network
+  net = decodeOf file .network
+
+  run : CanRun file net sums (length area)
+  run = can-run file sums (length area) s p
+
+  -- the layer is ready for its rows
+  ready : Ready (layerOf net m) file sums (net .area) (placeOf net m) (placeOf net (linkOf net m .other))
+  ready = layer-ready file net sums (length area) m run h
+
+  -- the tensor that it reads, which stands in the area whole and is of bytes where the area is
+  abbrev input : List ℕ
+  input = tensorAt area (placeOf net m) (tensorOf net m)
+
+  input-length : length input ≡ bytesOf (layerOf net m .input)
+  input-length =
+      let e = ap bytesOf (run .taken .layers m h .input) in
+      part-length area (placeOf net m) (bytesOf (tensorOf net m)) (omega (arith, ready .before, ready .within, run .area-in, e)) ∙ sym e
+
+  input-bytes : Bytes area → Bytes input
+  input-bytes b = bytes-take (bytesOf (tensorOf net m)) _ (bytes-drop (placeOf net m) area b)
+
+pub direct-rows : DirectRows
+direct-rows file sums area s p m i h true-sums =
+    let y = layerOf (decodeOf file .network) m in
+    direct-by (y .kind) y _ _ file sums _ _ i (ready file sums area s p m h .kind) (input-length file sums area s p m h) (sum-true y file sums true-sums)
+
+pub totals-fit : TotalsFit
+totals-fit file sums area s bf ba p m h =
+    let n = decodeOf file .network in
+    let t = can-run file sums (length area) s p .taken in
+    totals-by (layerOf n m .kind) n m (layerOf n m) (zeroOf n m) (zeroOf n (linkOf n m .other)) file sums _
+    (t .layers m h .kind)
+    (ready file sums area s p m h .kind)
+    bf
+    (input-bytes file sums area s p m h ba)
+    (input-length file sums area s p m h)
+    (zeros-few file bf n t m (omega arith))
+    (zeros-few file bf n t (linkOf n m .other) (omega (arith, link-ok file n t m h .other-before)))
+
+pub distances : Distances
+distances a m n = distance a m n

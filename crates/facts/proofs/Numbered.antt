@@ -1,0 +1,136 @@
+-- Tests 1 to 3 give no number above 3: each test of a file gives 0, 1, 2 or 3, and the first of such numbers is one.
+-- Assumes nothing.
+use Prim.Native.Nat.{ℕ, zero, suc, _+_, _≤_}
+use mathlib.Core.Bool.{Bool, true, false, cond}
+use mathlib.Core.List.{List}
+use native.Mathlib.Bridge.{le-by-compare, IsLe}
+use native.Mathlib.Omega.{arith}
+use lib.Dec.{leb}
+use lib.ListN.{length}
+use Rattle.records.specs.Bytes.{byteAt}
+use Rattle.records.specs.Faults.{first, within, biasFault, clampFault, paddingFault, spareFault, cutFault}
+use Rattle.records.specs.Shape.{sizeFault}
+use Rattle.records.specs.Stored.{biasFaults, storedFault}
+use Rattle.records.specs.Layer.{answer}
+use Rattle.records.specs.Mark.{markAt, fixedLen}
+use Rattle.records.specs.Conv.{convShape, readConvAs}
+use Rattle.records.specs.Full.{readFull}
+use Rattle.records.specs.Add.{addShape, readAdd}
+use Rattle.records.specs.declared.layer.Layer.{Layer}
+use Rattle.records.specs.declared.layer.Read.{Read}
+use Rattle.records.specs.declared.layer.Read.the-variants.{Refused, Found}
+use Rattle.records.specs.declared.mark.Mark.{Mark}
+use Rattle.records.specs.declared.mark.Mark.the-variants.{CV, FU, AD, Other}
+use Rattle.network.specs.Head.{pictureAt, headMark, headFault}
+use Rattle.network.specs.Decode.{readMarked, unlessCut, readLayer, stopped, started, startOf, pushed, stepRead, stepFrom, stepOf, runOf, endFault, decodedAs, ranOf, decodeOf}
+use Rattle.network.specs.declared.net.Network.{Network}
+use Rattle.network.specs.declared.file.Progress.{Progress}
+
+-- the first of two numbers is one of them
+pub first-most : {a b k : ℕ} → a ≤ k → b ≤ k → first a b ≤ k
+unfolding first
+first-most {a = zero} p q = q
+first-most {a = suc a} p q = p
+
+-- and so is the number of a branch
+cond-most : {a b k : ℕ} (t : Bool) → a ≤ k → b ≤ k → cond t a b ≤ k
+cond-most true p q = p
+cond-most false p q = q
+
+-- what bounds a fault that is made of tests and numerals
+ruleset most = (first-most, cond-most, le-by-compare)
+
+-- ---- the tests
+
+-- bytes that are not there
+cut-most : (s : List ℕ) (at n : ℕ) → cutFault s at n ≤ 3
+unfolding IsLe cutFault
+cut-most s at n = search most
+
+-- the head
+head-most : (s : List ℕ) → headFault s ≤ 3
+unfolding IsLe headFault headMark cutFault spareFault within sizeFault
+head-most s = search most depth 20
+
+-- bytes that follow the last layer
+end-most : (s : List ℕ) (at : ℕ) → endFault s at ≤ 3
+unfolding IsLe endFault
+end-most s at = search most
+
+-- a layer's biases
+biases-most : (s : List ℕ) (at n : ℕ) → biasFaults s at n ≤ 3
+unfolding IsLe biasFaults biasFault
+biases-most s at zero = omega arith
+biases-most s at (suc n) = search (most, biases-most s (at + 4) n)
+
+-- ---- a record's reader
+
+-- a refusal's number is at most 3
+abbrev Most : Read → Type 0
+Most (Refused k) = k ≤ 3
+Most (Found y next) = 0 ≤ 3
+
+-- an answer to a fault
+answer-most : (k : ℕ) (y : Layer) (next : ℕ) → k ≤ 3 → Most (answer k y next)
+unfolding answer
+answer-most zero y next h = omega arith
+answer-most (suc k) y next h = h
+
+-- the record of a mark
+marked-most : (m : Mark) (s : List ℕ) (at : ℕ) (n : Network) (made : ℕ) → Most (readMarked m s at n made)
+unfolding IsLe readConvAs readFull readAdd convShape addShape storedFault cutFault spareFault within clampFault paddingFault sizeFault
+marked-most CV s at n made = answer-most _ _ _ (search (most, biases-most) depth 20)
+marked-most FU s at n made = answer-most _ _ _ (search (most, biases-most) depth 20)
+marked-most AD s at n made = answer-most _ _ _ (search (most, biases-most) depth 20)
+marked-most Other s at n made = omega arith
+
+-- the next record
+layer-most : (s : List ℕ) (at : ℕ) (n : Network) (made : ℕ) → Most (readLayer s at n made)
+unfolding readLayer
+layer-most s at n made = unless-cut (cutFault s at (fixedLen (markAt s at))) (cut-most s at _)
+  where
+    unless-cut : (k : ℕ) → k ≤ 3 → Most (unlessCut k (readMarked (markAt s at) s at n made))
+    unless-cut zero h = marked-most (markAt s at) s at n made
+    unless-cut (suc k) h = h
+
+-- ---- the file
+
+-- after the head
+start-most : (s : List ℕ) → startOf s .refusal ≤ 3
+unfolding startOf started stopped
+start-most s = at-fault (headFault s) (head-most s) where
+  at-fault : (k : ℕ) → k ≤ 3 → started k (pictureAt s) (byteAt s 7) (byteAt s 8) .refusal ≤ 3
+  at-fault zero h = h
+  at-fault (suc k) h = h
+
+-- after one more layer
+step-most : (s : List ℕ) (p : Progress) → p .refusal ≤ 3 → stepOf s p .refusal ≤ 3
+unfolding stepOf stopped pushed
+step-most s p h = from (p .refusal) where
+  after : (r : Read) → Most r → stepRead p r .refusal ≤ 3
+  after (Refused k) g = g
+  after (Found y next) g = g
+
+  from : (k : ℕ) → stepFrom k s p .refusal ≤ 3
+  from zero = after (readLayer s (p .at) (p .network) (p .made)) (layer-most s _ _ _)
+  from (suc k) = h
+
+-- after n layers more
+run-most : (s : List ℕ) (n : ℕ) (p : Progress) → p .refusal ≤ 3 → runOf s n p .refusal ≤ 3
+unfolding runOf
+run-most s zero p h = h
+run-most s (suc n) p h = run-most s n (stepOf s p) (step-most s p h)
+
+-- what is decoded
+decoded-most : (k : ℕ) (p : Progress) → k ≤ 3 → decodedAs k p .refusal ≤ 3
+unfolding decodedAs
+decoded-most zero p h = omega arith
+decoded-most (suc k) p h = h
+
+-- tests 1 to 3 of any file
+pub file-most : (s : List ℕ) → decodeOf s .refusal ≤ 3
+unfolding decodeOf
+file-most s = by-length (leb (length s) 65536) where
+  by-length : (b : Bool) → cond b (ranOf s (startOf s)) (decodedAs 3 (stopped 3)) .refusal ≤ 3
+  by-length true = decoded-most _ _ (first-most (run-most s _ (startOf s) (start-most s)) (end-most s _))
+  by-length false = decoded-most 3 _ (omega arith)

@@ -1,0 +1,96 @@
+-- Demand 2, as statements: each recomputed byte is the one that the published integer scheme gives, no total leaves signed 32 bits, and how far
+-- a rescaled number is from the exact product. The proofs stand in proofs/Demand2.antt.
+-- Assumes nothing.
+use Prim.Native.Nat.{ℕ, suc, _+_, _*_, _^_, _≤_, _<_}
+use mathlib.Core.Path.{_≡_}
+use mathlib.Core.List.{List, [], _∷_}
+use lib.IntN.{ℤ, pos, natAbs, _+ℤ_, _-ℤ_, _*ℤ_}
+use lib.ListN.{length, getD}
+use Rattle.numbers.specs.Total.{centred}
+use Rattle.numbers.specs.Rescale.{rescaled, slack}
+use Rattle.numbers.specs.Finish.{finished}
+use Rattle.numbers.specs.Addition.{offset}
+use Rattle.windows.specs.Lists.{joined, part}
+use Rattle.windows.specs.Window.{windowOf}
+use Rattle.records.specs.Bytes.{i32At}
+use Rattle.records.specs.Shape.{rowBytes}
+use Rattle.records.specs.Layer.{sumsOf}
+use Rattle.records.specs.declared.layer.Kind.{Kind}
+use Rattle.records.specs.declared.layer.Kind.the-variants.{Convolution, Fully, Addition}
+use Rattle.records.specs.declared.layer.Layer.{Layer}
+use Rattle.network.specs.Network.{layerOf, tensorOf, placeOf, zeroOf}
+use Rattle.network.specs.Decode.{decodeOf}
+use Rattle.network.specs.declared.net.Network.{Network}
+use Rattle.layers.specs.Outputs.{weightsOf, totalAt}
+use Rattle.layers.specs.Conv.{windowFor, convOutputs}
+use Rattle.layers.specs.Full.{fullOutputs}
+use Rattle.layers.specs.Add.{addRow}
+use Rattle.layers.specs.Row.{tensorAt}
+use Rattle.layers.specs.Sums.{layerSums}
+use Rattle.layers.specs.declared.outputs.Outputs.{Outputs}
+use Rattle.bands.specs.declared.state.State.{State}
+use Rattle.checks.specs.Tensors.{linkOf}
+use Rattle.checks.specs.Tests.{callFault}
+use Rattle.runs.specs.Run.{rowFrom}
+
+-- output f at a window q: the direct sum of offset products plus bias, rescaled and finished. No stored sum stands in it
+abbrev pub directByte : Outputs → List ℕ → List ℕ → ℕ → ℕ
+directByte o file q f =
+    finished
+    (rescaled (i32At file (o .biases + 4 * f) +ℤ centred (o .z) (o .v) q (weightsOf file (o .weights) (length q) f)) (o .scale .multiplier) (o .scale .shift))
+    (o .zero) (o .low) (o .high)
+
+abbrev pub directOutputs : Outputs → List ℕ → List ℕ → List ℕ
+directOutputs o file q = joined (o .count) (λ f. directByte o file q f ∷ [])
+
+-- row i of a layer; an add has no weights
+abbrev pub directBy : Kind → Layer → ℕ → ℕ → List ℕ → List ℕ → List ℕ → ℕ → List ℕ
+directBy (Convolution c) y z z′ file t t′ i =
+    joined (y .output .columns) (λ j. directOutputs (convOutputs y c z) file (windowOf (windowFor y c z) t (i * c .stride) (j * c .stride)))
+directBy (Fully f) y z z′ file t t′ i = directOutputs (fullOutputs y f z) file t
+directBy (Addition a) y z z′ file t t′ i = addRow a z z′ (rowBytes (y .output)) t t′ i
+
+-- row i of layer m, from the rows stored in the area
+abbrev pub directFrom : Network → List ℕ → ℕ → List ℕ → ℕ → List ℕ
+directFrom n file m area i =
+    directBy (layerOf n m .kind) (layerOf n m) (zeroOf n m) (zeroOf n (linkOf n m .other)) file
+    (tensorAt area (placeOf n m) (tensorOf n m))
+    (tensorAt area (placeOf n (linkOf n m .other)) (tensorOf n m))
+    i
+
+-- the store holds the true sums of layer m
+abbrev pub TrueSums : Network → List ℕ → List ℕ → ℕ → Type 0
+TrueSums n file sums m = part sums (layerOf n m .sums) (sumsOf (layerOf n m .kind)) ≡ layerSums (layerOf n m) file
+
+-- a call that passes tests 1 to 6, with true weight sums: each row is the direct one
+abbrev pub DirectRows : Type 0
+DirectRows = (file sums area : List ℕ) (s : State) → callFault file sums (length area) s ≡ 0
+    → (m i : ℕ) → m < decodeOf file .network .count → TrueSums (decodeOf file .network) file sums m
+    → rowFrom (decodeOf file .network) file sums m area i ≡ directFrom (decodeOf file .network) file m area i
+
+-- a list of bytes
+abbrev pub AllBytes : List ℕ → Type 0
+AllBytes l = (i : ℕ) → getD l i 0 ≤ 255
+
+-- every total of a layer, with any sums that test 6 lets pass: of output f at any window, or of an add's bytes q and q′
+abbrev pub TotalsBy : Kind → Layer → ℕ → ℕ → List ℕ → List ℕ → List ℕ → Type 0
+TotalsBy (Convolution c) y z z′ file sums t =
+    (i j f : ℕ) → f < c .filters → natAbs (totalAt (convOutputs y c z) file sums (windowOf (windowFor y c z) t i j) f) ≤ 2139111424
+TotalsBy (Fully g) y z z′ file sums t = (f : ℕ) → f < g .outputs → natAbs (totalAt (fullOutputs y g z) file sums t f) ≤ 2139111424
+TotalsBy (Addition a) y z z′ file sums t =
+    (q q′ : ℕ) → q ≤ 255 → q′ ≤ 255
+    → (natAbs ((pos q -ℤ pos z) *ℤ pos (2 ^ 20)) ≤ 2 ^ 28)
+    × (natAbs ((pos q′ -ℤ pos z′) *ℤ pos (2 ^ 20)) ≤ 2 ^ 28)
+    × (natAbs (offset q z (a .first .multiplier) (a .first .shift) +ℤ offset q′ z′ (a .second .multiplier) (a .second .shift)) ≤ 2 ^ 29)
+
+-- no total of a call that passes tests 1 to 6 leaves signed 32 bits, whatever the area holds
+abbrev pub TotalsFit : Type 0
+TotalsFit = (file sums area : List ℕ) (s : State) → AllBytes file → AllBytes area → callFault file sums (length area) s ≡ 0
+    → (m : ℕ) → m < decodeOf file .network .count
+    → TotalsBy (layerOf (decodeOf file .network) m .kind) (layerOf (decodeOf file .network) m)
+    (zeroOf (decodeOf file .network) m) (zeroOf (decodeOf file .network) (linkOf (decodeOf file .network) m .other)) file sums
+    (tensorAt area (placeOf (decodeOf file .network) m) (tensorOf (decodeOf file .network) m))
+
+-- twice the distance from the exact product, times 2^(31+n): at most 2^31 if n is 0, otherwise 2^(31+n) + 2^31
+abbrev pub Distances : Type 0
+Distances = (a : ℤ) (m n : ℕ) → 2 * natAbs (rescaled a m n *ℤ pos (2 ^ (31 + n)) -ℤ a *ℤ pos m) ≤ slack n
