@@ -58,15 +58,14 @@ rows-fit {file} {sums} {n} {room} first count len c e h =
 
 -- the last tensor, out of the area
 pub slice-fits :
-    {file sums : List ℕ} {n : Network} {room from : ℕ} (len : ℕ) {fault : ℕ} →
+    {file sums : List ℕ} {n : Network} {room from : ℕ} (len : ℕ) →
     CanRun file n sums room →
-    fault ≡ sliceFault n len →
-    fault ≡ 0 →
+    sliceFault n len ≡ 0 →
     from ≡ placeOf n (n .count) →
     (from + len ≤ room) × (from + len ≤ 65536)
-slice-fits {file} {sums} {n} len c e h place =
+slice-fits {file} {sums} {n} len c h place =
     let t = c .taken in
-    let p = slice-passed n len (sym e ∙ h) in
+    let p = slice-passed n len h in
     let q = tensors-in file n t (n .count) (omega arith) in
     (omega (arith, c .area-in), omega (arith, t .area-few))
 

@@ -1,10 +1,11 @@
 -- `clew::changing::change_rows` meets its contract.
 -- Assumes nothing.
+use mathlib.Core.Path.{refl}
 use native.Mathlib.Omega.{arith}
 use denote.Ref.{now}
 use lib.ListN.{length}
 use Rattle.records.proofs.Tests.{met, passed}
-use Rattle.clew.proofs.Answers.{change-refused, change-done}
+use Rattle.clew.proofs.Answers.{both, change-refused, change-done}
 use Rattle.clew.proofs.Entered.{Entered, entered}
 use Rattle.clew.proofs.Rooms.{RowsFit, rows-fit}
 use borrow.Author.Needs.{needs}
@@ -26,7 +27,9 @@ fits : (c : tie.Else2) → RowsFit (c .before .before .before .before .before .t
 fits c = rows-fit _ _ _ (inside (c .before .before) .can) (c .before .rows-fault .ensures) (c .if2 .left)
 
 returns : tie.Need-returns
-returns c = change-refused _ _ _ _ _ _ _ (met _ _ _ (c .before .before .before .before .test-call .ensures .0) (c .before .if1 .taken)) (c .before .if1 .taken) (c .plain .ensures)
+returns c =
+    let a = c .before .before .before .before .before .before .before .before .before .args in
+    both (change-refused (now (a .file)) (now (a .sums)) (now (a .area)) (a .state) (a .first) (a .count) (now (a .rows)) (met _ _ _ (c .before .before .before .before .test-call .ensures .0) (c .before .if1 .taken)) (c .before .if1 .taken)) (rw (c .plain .ensures)) refl
 
 rows-fault-requires : tie.Need-rows-fault-requires
 rows-fault-requires c κs = inside c .can .taken .shapes 0 (omega arith)
@@ -36,9 +39,9 @@ plain-requires-2 c κs = search needs
 
 returns-2 : tie.Need-returns-2
 returns-2 c =
-    change-refused _ _ _ _ _ _ _
-    (passed _ _ _ _ (c .before .before .before .before .before .before .test-call .ensures .0) (c .before .before .before .if1 .left) (rw (c .before .before .before .before .before .before .test-call .ensures .1) at (c .before .before .rows-fault .ensures)))
-    (c .before .if2 .taken) (c .plain2 .ensures)
+    let a = c .before .before .before .before .before .before .before .before .before .before .before .args in
+    let fault = passed _ _ _ _ (c .before .before .before .before .before .before .test-call .ensures .0) (c .before .before .before .if1 .left) (rw (c .before .before .before .before .before .before .test-call .ensures .1) at (c .before .before .rows-fault .ensures)) in
+    both (change-refused (now (a .file)) (now (a .sums)) (now (a .area)) (a .state) (a .first) (a .count) (now (a .rows)) fault (c .before .if2 .taken)) (rw (c .plain2 .ensures)) refl
 
 mul-copy-in : tie.Need-mul-copy-in
 mul-copy-in c = omega (arith, fits (c .before .before .before) .row-few)
@@ -68,7 +71,11 @@ same-length : tie.Need-same-length
 same-length c = search needs
 
 returns-3 : tie.Need-returns-3
-returns-3 c = change-done _ _ _ _ _ _ _ (inside (c .before .before .before .before .before .before .before .before .before .before)) (c .before .before .before .before .before .before .before .before .before .rows-fault .ensures) (c .before .before .before .before .before .before .before .before .if2 .left) (c .plain3 .ensures) (c .before .after-change .ensures) (c .before .before .before .before .copy-in .ensures)
+returns-3 c =
+    let a = c .before .before .before .before .before .before .before .before .before .before .before .before .before .before .before .before .before .before .args in
+    both (change-done (now (a .file)) (now (a .sums)) (now (a .area)) (a .state) (a .first) (a .count) (now (a .rows)) (inside (c .before .before .before .before .before .before .before .before .before .before)) (c .before .before .before .before .before .before .before .before .before .rows-fault .ensures) (c .before .before .before .before .before .before .before .before .if2 .left))
+    (rw (c .plain3 .ensures, c .before .after-change .ensures))
+    (rw (c .before .before .before .before .copy-in .ensures))
 
 pub change-rows-spec : {M : Type 1} → statement M
 change-rows-spec =

@@ -1,10 +1,10 @@
 -- `clew::loading::load` meets its contract.
 -- Assumes nothing.
-use mathlib.Core.Path.{sym, _∙_}
+use mathlib.Core.Path.{sym, _∙_, refl}
 use denote.Ref.{now}
 use Rattle.checks.proofs.Passed.{load-passed}
 use Rattle.checks.proofs.Rows.{decoded-rows}
-use Rattle.clew.proofs.Answers.{load-refused, load-done}
+use Rattle.clew.proofs.Answers.{both, load-refused, load-done}
 use borrow.Author.Needs.{needs}
 use Rattle.clew.proofs.loading.load.Statement.{statement}
 use Rattle.clew.proofs.loading.load.Tie as tie
@@ -19,7 +19,9 @@ plain-requires : tie.Need-plain-requires
 plain-requires c κs = search needs
 
 returns : tie.Need-returns
-returns c = load-refused _ _ _ (c .before .before .before .before .before .test-load .ensures .0) (c .before .before .if1 .taken) (c .plain .ensures) (c .before .all-stale .ensures)
+returns c =
+    let a = c .before .before .before .before .before .before .before .before .before .args in
+    both (load-refused (now (a .file)) (now (a .sums)) (now (a .area)) (c .before .before .before .before .before .test-load .ensures .0) (c .before .before .if1 .taken)) (rw (c .plain .ensures, c .before .all-stale .ensures)) refl
 
 fill-sums-requires : tie.Need-fill-sums-requires
 fill-sums-requires c κs =
@@ -39,7 +41,11 @@ same-length : tie.Need-same-length
 same-length c = search needs
 
 returns-2 : tie.Need-returns-2
-returns-2 c = load-done _ _ _ (c .before .before .before .before .before .before .before .before .before .before .test-load .ensures) (c .before .before .before .before .before .before .before .if1 .left) (c .plain2 .ensures) (c .before .after-load .ensures) (c .before .before .tensors-of .ensures) (c .before .before .before .before .before .fill-sums .ensures)
+returns-2 c =
+    let a = c .before .before .before .before .before .before .before .before .before .before .before .before .before .before .args in
+    both (load-done (now (a .file)) (now (a .sums)) (now (a .area)) (c .before .before .before .before .before .before .before .before .before .before .test-load .ensures) (c .before .before .before .before .before .before .before .if1 .left))
+    (rw (← (c .before .before .tensors-of .ensures), ← (c .before .after-load .ensures), c .plain2 .ensures))
+    (rw (c .before .before .before .before .before .fill-sums .ensures))
 
 pub load-spec : {M : Type 1} → statement M
 load-spec =

@@ -2,10 +2,15 @@
 -- Assumes nothing.
 use Prim.Native.Nat.{_-_, _≤_, _<_}
 use native.Mathlib.Omega.{arith}
+use mathlib.Core.Path.{_≡_, refl}
 use denote.Ref.{now}
 use lib.ListN.{length}
 use Rattle.records.proofs.Tests.{met, passed}
-use Rattle.clew.proofs.Answers.{replace-refused, replace-done}
+use Rattle.windows.specs.Lists.{pasted}
+use Rattle.layers.specs.Sums.{layerSums}
+use Rattle.bands.specs.State.{replaced}
+use Rattle.clew.specs.Calls.{outcome}
+use Rattle.clew.proofs.Answers.{all-three, replace-refused, replace-done}
 use Rattle.clew.proofs.Entered.{Entered, entered}
 use Rattle.clew.proofs.Rooms.{layer-there, layer-fits, record-there, record-fits, sums-fit, output-few}
 use borrow.Author.Needs.{needs}
@@ -33,7 +38,9 @@ there : (c : tie.Else2) → (1 ≤ c .before .before .before .before .before .be
 there c = layer-there _ _ (c .before .layer-fault .ensures) (c .if2 .left)
 
 returns : tie.Need-returns
-returns c = replace-refused _ _ _ _ _ _ (met _ _ _ (c .before .before .before .before .test-call .ensures .0) (c .before .if1 .taken)) (c .before .if1 .taken) (c .plain .ensures)
+returns c =
+    let a = c .before .before .before .before .before .before .before .before .before .before .before .args in
+    all-three (replace-refused (now (a .file)) (now (a .sums)) (now (a .area)) (a .state) (a .number) (now (a .«record»)) (met _ _ _ (c .before .before .before .before .test-call .ensures .0) (c .before .if1 .taken)) (c .before .if1 .taken)) (rw (c .plain .ensures)) refl refl
 
 layer-fault-requires : tie.Need-layer-fault-requires
 layer-fault-requires c κs = search needs
@@ -49,10 +56,10 @@ same-length-4 c = search needs
 
 returns-2 : tie.Need-returns-2
 returns-2 c =
-    replace-refused _ _ _ _ _ _
-    (passed _ _ _ _ (c .before .before .before .before .before .before .test-call .ensures .0) (c .before .before .before .if1 .left)
-    (met _ _ _ (rw (c .before .before .before .before .before .before .test-call .ensures .1) at (c .before .before .layer-fault .ensures)) (c .before .if2 .taken)))
-    (c .before .if2 .taken) (c .plain2 .ensures)
+    let a = c .before .before .before .before .before .before .before .before .before .before .before .before .before .args in
+    let seven = met _ _ _ (rw (c .before .before .before .before .before .before .test-call .ensures .1) at (c .before .before .layer-fault .ensures)) (c .before .if2 .taken) in
+    let fault = passed _ _ _ _ (c .before .before .before .before .before .before .test-call .ensures .0) (c .before .before .before .if1 .left) seven in
+    all-three (replace-refused (now (a .file)) (now (a .sums)) (now (a .area)) (a .state) (a .number) (now (a .«record»)) fault (c .before .if2 .taken)) (rw (c .plain2 .ensures)) refl refl
 
 sub-layer : tie.Need-sub-layer
 sub-layer c = there c .0
@@ -77,11 +84,11 @@ same-length-6 c = search needs
 
 returns-3 : tie.Need-returns-3
 returns-3 c =
-    replace-refused _ _ _ _ _ _
-    (passed _ _ _ _ (c .before .before .before .before .before .before .before .before .before .before .before .test-call .ensures .0) (c .before .before .before .before .before .before .before .before .if1 .left)
-    (passed _ _ _ _ (rw (c .before .before .before .before .before .before .before .before .before .before .before .test-call .ensures .1) at (c .before .before .before .before .before .before .before .layer-fault .ensures)) (c .before .before .before .before .before .before .if2 .left)
-    (rw (c .before .before .before .before .before .layer .ensures, c .before .before .before .before .before .before .before .before .before .before .before .test-call .ensures .1) at (c .before .before .replace-fault .ensures))))
-    (c .before .if3 .taken) (c .plain3 .ensures)
+    let a = c .before .before .before .before .before .before .before .before .before .before .before .before .before .before .before .before .before .before .args in
+    let nine = rw (c .before .before .before .before .before .layer .ensures, c .before .before .before .before .before .before .before .before .before .before .before .test-call .ensures .1) at (c .before .before .replace-fault .ensures) in
+    let seven = passed _ _ _ _ (rw (c .before .before .before .before .before .before .before .before .before .before .before .test-call .ensures .1) at (c .before .before .before .before .before .before .before .layer-fault .ensures)) (c .before .before .before .before .before .before .if2 .left) nine in
+    let fault = passed _ _ _ _ (c .before .before .before .before .before .before .before .before .before .before .before .test-call .ensures .0) (c .before .before .before .before .before .before .before .before .if1 .left) seven in
+    all-three (replace-refused (now (a .file)) (now (a .sums)) (now (a .area)) (a .state) (a .number) (now (a .«record»)) fault (c .before .if3 .taken)) (rw (c .plain3 .ensures)) refl refl
 
 copy-in-requires : tie.Need-copy-in-requires
 copy-in-requires c κs = record-fits (inside (c .before .before .before .before .before .before .before .before) .can) (there (c .before .before .before .before .before .before) .1) (c .before .before .before .before .before .layer .ensures) _ (c .before .before .replace-fault .ensures) (c .before .if3 .left)
@@ -104,10 +111,25 @@ same-length-7 c = search needs
 same-length-8 : tie.Need-same-length-8
 same-length-8 c = search needs
 
+-- the band is the whole tensor
+answered : (c : tie.After-plain4) → c .plain4 .result ≡ outcome 0 0 (replaced (c .before .before .before .before .before .before .before .before .before .before .before .before .before .before .before .before .before .before .before .before .before .before .before .before .before .before .before .before .before .before .args .state) (c .before .before .before .before .before .before .before .before .before .before .before .before .before .before .before .before .before .before .before .before .before .before .before .before .before .before .before .before .before .before .args .number) (c .before .before .before .before .before .before .before .before .before .before .before .before .before .before .before .before .before .layer .result .output .rows))
+answered c = rw (← (c .before .after-replace .ensures), c .plain4 .ensures)
+
+-- the sums are those of the new record
+summed :
+    (c : tie.After-put-sums) →
+    c .put-sums .last .1 .1 .0 ≡
+    pasted (now (c .before .before .before .before .before .before .before .before .before .before .before .before .before .before .before .before .before .before .before .before .before .before .before .before .args .sums)) (c .before .before .before .before .before .before .before .before .before .before .before .layer .result .sums) (layerSums (c .before .before .before .before .before .before .before .before .before .before .before .layer .result) (pasted (now (c .before .before .before .before .before .before .before .before .before .before .before .before .before .before .before .before .before .before .before .before .before .before .before .before .args .file)) (c .before .before .before .before .before .before .before .before .before .before .before .layer .result .start) (now (c .before .before .before .before .before .before .before .before .before .before .before .before .before .before .before .before .before .before .before .before .before .before .before .before .args .«record»))))
+summed c = rw (← (c .before .before .before .before .before .copy-in .ensures), c .put-sums .ensures)
+
 returns-4 : tie.Need-returns-4
 returns-4 c =
-    replace-done _ _ _ _ _ _ (inside (c .before .before .before .before .before .before .before .before .before .before .before .before .before .before .before .before .before .before .before .before)) (c .before .before .before .before .before .before .before .before .before .before .before .before .before .before .before .before .before .before .before .layer-fault .ensures) (c .before .before .before .before .before .before .before .before .before .before .before .before .before .before .before .before .before .before .if2 .left) (c .before .before .before .before .before .before .before .before .before .before .before .before .before .before .before .before .before .layer .ensures) (c .before .before .before .before .before .before .before .before .before .before .before .before .before .before .replace-fault .ensures) (c .before .before .before .before .before .before .before .before .before .before .before .before .before .if3 .left)
-    (c .plain4 .ensures) (c .before .after-replace .ensures) (c .before .before .before .before .before .before .before .before .before .before .before .copy-in .ensures) (c .before .before .before .before .before .before .put-sums .ensures)
+    let a = c .before .before .before .before .before .before .before .before .before .before .before .before .before .before .before .before .before .before .before .before .before .before .before .before .before .before .before .before .before .before .args in
+    all-three
+    (replace-done (now (a .file)) (now (a .sums)) (now (a .area)) (a .state) (a .number) (now (a .«record»)) (inside (c .before .before .before .before .before .before .before .before .before .before .before .before .before .before .before .before .before .before .before .before)) (c .before .before .before .before .before .before .before .before .before .before .before .before .before .before .before .before .before .before .before .layer-fault .ensures) (c .before .before .before .before .before .before .before .before .before .before .before .before .before .before .before .before .before .before .if2 .left) (c .before .before .before .before .before .before .before .before .before .before .before .before .before .before .before .before .before .layer .ensures) (c .before .before .before .before .before .before .before .before .before .before .before .before .before .before .replace-fault .ensures) (c .before .before .before .before .before .before .before .before .before .before .before .before .before .if3 .left))
+    (answered c)
+    (rw (c .before .before .before .before .before .before .before .before .before .before .before .copy-in .ensures))
+    (summed (c .before .before .before .before .before .before))
 
 pub replace-layer-spec : {M : Type 1} → statement M
 replace-layer-spec =

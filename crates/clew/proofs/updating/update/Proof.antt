@@ -1,8 +1,10 @@
 -- `clew::updating::update` meets its contract.
 -- Assumes nothing.
+use mathlib.Core.Path.{refl}
+use native.Mathlib.Omega.{arith}
 use denote.Ref.{now}
 use lib.ListN.{length}
-use Rattle.clew.proofs.Answers.{update-refused, update-done}
+use Rattle.clew.proofs.Answers.{both, update-refused, update-done}
 use Rattle.clew.proofs.Entered.{Entered, entered}
 use borrow.Author.Needs.{needs}
 use Rattle.clew.proofs.updating.update.Statement.{statement}
@@ -19,10 +21,12 @@ inside : (c : tie.Else1) → Entered (now (c .before .before .before .before .be
 inside c = entered _ _ _ _ (c .before .before .before .test-call .ensures) (c .if1 .left)
 
 returns : tie.Need-returns
-returns c = update-refused _ _ _ _ (c .before .before .before .before .test-call .ensures .0) (c .before .if1 .taken) (c .plain .ensures)
+returns c =
+    let a = c .before .before .before .before .before .before .before .before .args in
+    both (update-refused (now (a .file)) (now (a .sums)) (now (a .area)) (a .state) (c .before .before .before .before .test-call .ensures .0) (c .before .if1 .taken)) (rw (c .plain .ensures)) refl
 
 run-requires : tie.Need-run-requires
-run-requires c κs = let p = inside (c .before) in (p .can, p .fair)
+run-requires c κs = let p = inside (c .before) in (p .can, λ t h. omega (arith, p .fair t h))
 
 all-empty-requires : tie.Need-all-empty-requires
 all-empty-requires c κs = search needs
@@ -31,7 +35,11 @@ same-length : tie.Need-same-length
 same-length c = search needs
 
 returns-2 : tie.Need-returns-2
-returns-2 c = update-done _ _ _ _ (inside (c .before .before .before .before .before)) (c .before .before .before .run .ensures .0) (c .all-empty .ensures) (c .before .before .before .run .ensures .1)
+returns-2 c =
+    let a = c .before .before .before .before .before .before .before .before .before .before .before .before .args in
+    both (update-done (now (a .file)) (now (a .sums)) (now (a .area)) (a .state) (inside (c .before .before .before .before .before)))
+    (rw (← (c .before .before .before .run .ensures .0), c .all-empty .ensures))
+    (rw (c .before .before .before .run .ensures .1))
 
 pub update-spec : {M : Type 1} → statement M
 update-spec =
