@@ -1,7 +1,7 @@
 //! The sample files: a network of six layers over a picture of 24 × 24 bytes that says in which ninth of the picture a
 //! motif's centre lies, and what the walk program does with it. The weights are set by hand; nothing is trained.
 
-mod record;
+pub mod record;
 
 use record::{add, conv, full, head, Conv, Scale};
 

@@ -18,8 +18,7 @@ impl Morning {
     }
 
     fn replace_layer(&mut self, layer: usize, record: &[u8]) {
-        let outcome =
-            second::replace_layer(&mut self.file, &mut self.sums, &self.area, self.state, layer, record);
+        let outcome = second::replace_layer(&mut self.file, &mut self.sums, &self.area, self.state, layer, record);
         self.answered("replace layer", outcome);
     }
 

@@ -1,0 +1,2 @@
+-- The definitions that the C interface's promises cite.
+pub mod Flat

@@ -1,0 +1,85 @@
+// The five calls for C and Rust: `rt staticlib clew_c` builds the archive, include/clew.h declares them.
+ghost use mathlib.Core.Path.{_≡_};
+ghost use Rattle.clew.specs.Calls.{loadOf, changeOf, replaceOf, updateOf, readOf};
+ghost use Rattle.clew_c.specs.Flat.{stateOf, told, replacedAs, updatedAs, readAs};
+
+mod flat;
+
+use flat::numbers_of;
+use flat::state_of;
+
+#[no_mangle]
+pub extern "C" fn clew_load(net: &[u8], sums: &mut [u32], area: &[u8], state: &mut [u16; 34]) -> u8
+    ensures { λ r. ⌜ (r, now (sums .exit), now (state .exit)) ≡ told (loadOf (now (net .entry)) (now (sums .entry)) (now (area .entry))) ⌝ }
+{
+    let o = clew::load(net, sums, area);
+    let s = o.state;
+    *state = numbers_of(s);
+    o.number
+}
+
+#[no_mangle]
+pub extern "C" fn clew_change_rows(
+    net: &[u8],
+    sums: &[u32],
+    area: &mut [u8],
+    state: &mut [u16; 34],
+    first: usize,
+    count: usize,
+    rows: &[u8],
+) -> u8
+    ensures { λ r. ⌜ (r, now (area .exit), now (state .exit)) ≡ told (changeOf (now (net .entry)) (now (sums .entry)) (now (area .entry)) (stateOf (now (state .entry))) first count (now (rows .entry))) ⌝ }
+{
+    let o = clew::change_rows(net, sums, area, state_of(state), first, count, rows);
+    let s = o.state;
+    *state = numbers_of(s);
+    o.number
+}
+
+#[no_mangle]
+pub extern "C" fn clew_replace_layer(
+    net: &mut [u8],
+    sums: &mut [u32],
+    area: &[u8],
+    state: &mut [u16; 34],
+    layer: usize,
+    new: &[u8],
+) -> u8
+    ensures { λ r. ⌜ (r, now (net .exit), now (sums .exit), now (state .exit)) ≡ replacedAs (replaceOf (now (net .entry)) (now (sums .entry)) (now (area .entry)) (stateOf (now (state .entry))) layer (now (new .entry))) ⌝ }
+{
+    let o = clew::replace_layer(net, sums, area, state_of(state), layer, new);
+    let s = o.state;
+    *state = numbers_of(s);
+    o.number
+}
+
+#[no_mangle]
+pub extern "C" fn clew_update(
+    net: &[u8],
+    sums: &[u32],
+    area: &mut [u8],
+    state: &mut [u16; 34],
+    count: &mut u32,
+) -> u8
+    ensures { λ r. ⌜ (r, now (area .exit), now (state .exit), now (count .exit)) ≡ updatedAs (updateOf (now (net .entry)) (now (sums .entry)) (now (area .entry)) (stateOf (now (state .entry)))) ⌝ }
+{
+    let o = clew::update(net, sums, area, state_of(state));
+    let s = o.state;
+    *state = numbers_of(s);
+    *count = o.count;
+    o.number
+}
+
+#[no_mangle]
+pub extern "C" fn clew_read(
+    net: &[u8],
+    sums: &[u32],
+    area: &[u8],
+    state: &[u16; 34],
+    out: &mut [u8],
+) -> u8
+    ensures { λ r. ⌜ (r, now (out .exit)) ≡ readAs (readOf (now (net .entry)) (now (sums .entry)) (now (area .entry)) (stateOf (now (state .entry))) (now (out .entry))) ⌝ }
+{
+    let o = clew::read(net, sums, area, state_of(state), out);
+    o.number
+}

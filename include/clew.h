@@ -1,0 +1,64 @@
+/* Clewcringle: a small 8-bit network over one picture, kept up to date row by row.
+ *
+ * Every call finishes on every input and checks network, sums, work area and state itself. It answers 0 (done) or a
+ * refusal number; a refused call changes no lent byte, sum or state number, except that a refused load sets the all-stale
+ * state, which no other call takes.
+ *
+ *   1  a record is cut, its mark unknown, a spare not 0, or bytes follow the last layer
+ *   2  a field or bias outside its range
+ *   3  file too long, kernel too big, shapes of an add differ, tensor j not there yet, a tensor or all tensors too big
+ *   4  sum store or area shorter than needed (longer is allowed; the rest stays)
+ *   5  a band not 0,0 for a tensor that the network lacks; first > end; end > rows; empty but not 0,0
+ *   6  a stored sum above 255N
+ *   7  layer number not 1..n; no rows, or rows beyond the picture; rows or reading slice of the wrong length
+ *   8  a reading while any band is not empty
+ *   9  replacement differs in length, or in bytes 0-6 (convolution), 0-3 (full), 0-2 (add); or has a field, bias or
+ *      spare out of range
+ *
+ * Load gives 1 to 4, update 1 to 6, change rows 1 to 7, read 1 to 8, replace 1 to 7 and 9.
+ *
+ * Buffers, all the caller's:
+ *   net    the network file, at most 65,536 bytes
+ *   sums   a number for each filter and output of the network; 65,536 / 4 are always enough
+ *   area   the tensors one after another, the picture first; 65,536 bytes are always enough
+ *   state  first and end of the band of tensor 0, then of tensor 1, .. of tensor 16: 34 numbers
+ * Pass the same buffers and the latest state to each call, and change nothing else in between. (Only before the first
+ * update the picture may also be written straight to the front of the area.) Then every reading is that of a fresh run.
+ */
+#ifndef CLEW_H
+#define CLEW_H
+
+#include <stddef.h>
+#include <stdint.h>
+
+#ifdef __cplusplus
+extern "C" {
+#endif
+
+/* Fills the sums and makes every row of every tensor stale. The area is only measured. */
+uint8_t clew_load(const uint8_t *net, size_t net_len, uint32_t *sums, size_t sums_len, const uint8_t *area,
+                  size_t area_len, uint16_t state[34]);
+
+/* Writes the picture's rows first up to first + count, of columns x channels bytes each. */
+uint8_t clew_change_rows(const uint8_t *net, size_t net_len, const uint32_t *sums, size_t sums_len, uint8_t *area,
+                         size_t area_len, uint16_t state[34], size_t first, size_t count, const uint8_t *rows,
+                         size_t rows_len);
+
+/* Writes a record over that of a layer, counted from 1, and its sums. */
+uint8_t clew_replace_layer(uint8_t *net, size_t net_len, uint32_t *sums, size_t sums_len, const uint8_t *area,
+                           size_t area_len, uint16_t state[34], size_t layer, const uint8_t *record,
+                           size_t record_len);
+
+/* Recomputes what the stale rows reach, and nothing else; *count is the number of bytes recomputed. */
+uint8_t clew_update(const uint8_t *net, size_t net_len, const uint32_t *sums, size_t sums_len, uint8_t *area,
+                    size_t area_len, uint16_t state[34], uint32_t *count);
+
+/* Copies the last tensor; out_len must be its length. */
+uint8_t clew_read(const uint8_t *net, size_t net_len, const uint32_t *sums, size_t sums_len, const uint8_t *area,
+                  size_t area_len, const uint16_t state[34], uint8_t *out, size_t out_len);
+
+#ifdef __cplusplus
+}
+#endif
+
+#endif
