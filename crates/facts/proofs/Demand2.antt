@@ -40,10 +40,10 @@ use Rattle.layers.proofs.Totals.{ready-any}
 use Rattle.bands.specs.declared.state.State.{State}
 use Rattle.checks.specs.Tensors.{linkOf}
 use Rattle.checks.specs.Tests.{callFault}
-use Rattle.checks.proofs.Passed.{call-passed}
 use Rattle.checks.proofs.Links.{link-ok}
 use Rattle.runs.specs.Run.{CanRun}
 use Rattle.runs.proofs.Ready.{layer-ready}
+use Rattle.clew.proofs.Entered.{entered}
 use Rattle.facts.specs.Demand2.{directOutputs, directBy, DirectRows, TotalsBy, TotalsFit, Distances}
 
 -- the outputs at a window, with the true sums of their weights
@@ -120,9 +120,7 @@ pub can-run :
     (file sums : List ℕ) (room : ℕ) (s : State)
     → callFault file sums room s ≡ 0
     → CanRun file (decodeOf file .network) sums room
-can-run file sums room s p =
-    let c = call-passed file sums room s p in
-    record { taken = c .load .taken; sums-in = c .load .store-in; sums-fit = c .sums-fit; area-in = c .load .area-in }
+can-run file sums room s p = entered file sums room s (refl, refl) p .can
 
 module _ (file sums area : List ℕ) (s : State) (p : callFault file sums (length area) s ≡ 0) (m : ℕ) (h : m < decodeOf file .network .count) where
   -- the network that the file holds

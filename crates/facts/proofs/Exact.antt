@@ -24,6 +24,7 @@ use Rattle.runs.proofs.Fairs.{Fits, grown-fair}
 use Rattle.clew.specs.Calls.{updateBy, updateOf}
 use Rattle.facts.specs.Demand3.{Rewritten, ExactUpdates}
 use Rattle.facts.proofs.Model.{Present, model, layout}
+use Rattle.facts.proofs.Alike.{alike-same}
 use Rattle.facts.proofs.Laws.{model-laws, model-laid, model-room}
 use Rattle.facts.proofs.Runs.{row-is, run-over}
 
@@ -43,14 +44,7 @@ module _ (file sums : List ℕ) (k : ℕ) (s : State) (c : CallPassed file sums 
     file = file;
     sums = sums;
     taken = c .load .taken;
-    alike = record {
-      count = refl;
-      area = refl;
-      store = refl;
-      tensors = λ t. refl;
-      places = λ t. refl;
-      links = λ m h. refl;
-    };
+    alike = alike-same (decodeOf file .network);
   }
 
   -- the bands lie within the tensors

@@ -9,8 +9,8 @@ pub mod Model
 pub mod Tensors
 pub mod Laws
 pub mod Runs
-pub mod Exact
 pub mod Alike
+pub mod Exact
 pub mod Stored
 pub mod Steps
 pub mod Demand3

@@ -8,7 +8,7 @@ const WIDTH: f64 = 640.0;
 const HEIGHT: f64 = 360.0;
 const MARGIN: f64 = 56.0;
 
-/// Time over rows, each measured point with its bytes.
+/// Time over rows, a dot for each measured point.
 pub fn drawn(points: &[Point]) -> String {
     let most_rows = points.iter().map(|point| f64::from(point.rows)).fold(1.0, f64::max);
     let most_time = points.iter().map(|point| point.time).fold(1.0, f64::max);
@@ -32,9 +32,15 @@ pub fn drawn(points: &[Point]) -> String {
         below = HEIGHT - 12.0,
     )
     .expect("a string takes all");
+    let mut named = 0.0;
     for point in points {
         let (x, y) = (x(point.rows), y(point.time));
         writeln!(svg, r#"<circle cx="{x:.1}" cy="{y:.1}" r="3" fill="steelblue"/>"#).expect("a string takes all");
+        // Numbers that would run into one another are left to the table.
+        if x - named < 25.0 {
+            continue;
+        }
+        named = x;
         writeln!(
             svg,
             r#"<text x="{x:.1}" y="{:.1}" text-anchor="middle">{}</text>"#,
@@ -42,7 +48,7 @@ pub fn drawn(points: &[Point]) -> String {
             point.rows
         )
         .expect("a string takes all");
-        writeln!(svg, r#"<text x="{x:.1}" y="{:.1}" text-anchor="end">{:.0}</text>"#, y - 8.0, point.time)
+        writeln!(svg, r#"<text x="{x:.1}" y="{:.1}" text-anchor="middle">{:.0}</text>"#, y - 10.0, point.time)
             .expect("a string takes all");
     }
     svg.push_str("</svg>\n");
