@@ -1,7 +1,8 @@
--- Demand 3, as statements. Their proofs stand in proofs/Demand3.antt.
+-- Demand 3, as statements. Their proofs stand in proofs/Demand3.antt and proofs/Exact.antt.
 -- Assumes nothing.
 use Prim.Native.Nat.{ℕ, suc, _+_, _*_, _≤_, _<_}
 use mathlib.Core.Path.{_≡_}
+use mathlib.Core.Bool.{true}
 use mathlib.Core.List.{List}
 use lib.ListN.{length, drop}
 use Rattle.network.specs.Network.{tensorOf, placeOf}
@@ -10,9 +11,10 @@ use Rattle.network.specs.declared.net.Network.{Network}
 use Rattle.windows.specs.Lists.{part}
 use Rattle.records.specs.Shape.{bytesOf, rowBytes}
 use Rattle.bands.specs.Within.{In}
+use Rattle.bands.specs.State.{allEmpty, clean}
 use Rattle.bands.specs.declared.state.State.{State}
 use Rattle.runs.specs.Run.{networkSums, rowFrom, grownBandOf, countTo}
-use Rattle.clew.specs.Calls.{updateOf}
+use Rattle.clew.specs.Calls.{outcome, updateOf}
 use Rattle.facts.specs.Fresh.{freshReading}
 use Rattle.facts.specs.History.{System, networkOf, readFrom, Reached}
 
@@ -47,3 +49,8 @@ abbrev pub ExactUpdates : Type 0
 ExactUpdates = (file sums area : List ℕ) (s : State) → updateOf file sums area s .0 .number ≡ 0
     → Rewritten (decodeOf file .network) file sums s area (updateOf file sums area s .1)
     × (updateOf file sums area s .0 .count ≡ countTo (decodeOf file .network) s (decodeOf file .network .count))
+
+-- a clean state gives count 0: an accepted update from empty bands changes no byte
+abbrev pub CleanUpdates : Type 0
+CleanUpdates = (file sums area : List ℕ) (s : State) → updateOf file sums area s .0 .number ≡ 0 → clean s ≡ true
+    → updateOf file sums area s ≡ (outcome 0 0 allEmpty, area)
