@@ -11,6 +11,7 @@ pub mod Laws
 pub mod Runs
 pub mod Alike
 pub mod Exact
+pub mod Clean
 pub mod Stored
 pub mod Steps
 pub mod Demand3

@@ -1,4 +1,4 @@
--- Demand 3, as statements. Their proofs stand in proofs/Demand3.antt and proofs/Exact.antt.
+-- Demand 3, as statements. Their proofs stand in proofs/Demand3.antt, proofs/Exact.antt and proofs/Clean.antt.
 -- Assumes nothing.
 use Prim.Native.Nat.{ℕ, suc, _+_, _*_, _≤_, _<_}
 use mathlib.Core.Path.{_≡_}
