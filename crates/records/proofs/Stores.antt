@@ -6,13 +6,13 @@ use mathlib.Core.List.{List}
 use native.Mathlib.Omega.{arith}
 use lib.IntN.{natAbs}
 use lib.ListN.{length}
-use Rattle.records.specs.Bytes.{i32At}
-use Rattle.records.specs.Faults.{cutFault}
-use Rattle.records.specs.Stored.{biasFaults, storedLen, storedFault}
+use Rattle.fields.specs.Bytes.{i32At}
+use Rattle.fields.specs.Faults.{cutFault}
+use Rattle.fields.specs.Stored.{biasFaults, storedLen, storedFault}
 use Rattle.records.specs.Layer.{sumsOf, termsOf, weightsAt, recordLen}
 use Rattle.records.specs.declared.layer.Layer.{Layer}
-use Rattle.records.proofs.Tests.{first-both, cut-there}
-use Rattle.records.proofs.Biases.{biases-in}
+use Rattle.fields.proofs.Tests.{first-both, cut-there}
+use Rattle.fields.proofs.Biases.{biases-in}
 
 pub stored-there : (s : List ℕ) (at n w : ℕ) → at ≤ length s → cutFault s at (storedLen n w) ≡ 0 → at + 4 * n ≤ length s
 unfolding storedLen

@@ -1,0 +1,5 @@
+-- Laws that belong to no one function.
+pub mod Biases
+pub mod Shapes
+pub mod Signed
+pub mod Tests
