@@ -2,4 +2,5 @@
 pub mod Biases
 pub mod Shapes
 pub mod Signed
+pub mod Stores
 pub mod Tests

@@ -4,5 +4,4 @@ pub mod Answers
 pub mod Convs
 pub mod Examples
 pub mod Fulls
-pub mod Stores
 pub mod Taken

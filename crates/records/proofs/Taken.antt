@@ -17,7 +17,7 @@ use Rattle.fields.specs.declared.shape.Shape.{Shape}
 use Rattle.records.specs.declared.layer.Layer.{Layer}
 use Rattle.fields.proofs.Tests.{first-both}
 use Rattle.fields.proofs.Shapes.{size-in}
-use Rattle.records.proofs.Stores.{stored-in}
+use Rattle.fields.proofs.Stores.{stored-in}
 use Rattle.records.proofs.Answers.{Answered, answer-ok}
 use Rattle.records.proofs.Convs.{conv-ok, conv-fits, conv-good}
 use Rattle.records.proofs.Fulls.{full-ok, full-good}

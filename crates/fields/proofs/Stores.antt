@@ -6,13 +6,11 @@ use mathlib.Core.List.{List}
 use native.Mathlib.Omega.{arith}
 use lib.IntN.{natAbs}
 use lib.ListN.{length}
 use Rattle.fields.specs.Bytes.{i32At}
 use Rattle.fields.specs.Faults.{cutFault}
 use Rattle.fields.specs.Stored.{biasFaults, storedLen, storedFault}
-use Rattle.records.specs.Layer.{sumsOf, termsOf, weightsAt, recordLen}
-use Rattle.records.specs.declared.layer.Layer.{Layer}
 use Rattle.fields.proofs.Tests.{first-both, cut-there}
 use Rattle.fields.proofs.Biases.{biases-in}
 
 pub stored-there : (s : List ℕ) (at n w : ℕ) → at ≤ length s → cutFault s at (storedLen n w) ≡ 0 → at + 4 * n ≤ length s
 unfolding storedLen
@@ -28,10 +26,3 @@ unfolding storedFault
 stored-in s at n w a p =
     let q = first-both (cutFault s at (storedLen n w)) (biasFaults s at n) p in
     record { there = cut-there s at (storedLen n w) a (q .0); biases = biases-in s at n (q .1) }
-
--- a record ends with its weights
-pub record-end :
-    (y : Layer) →
-    y .start + recordLen y ≡ weightsAt y + sumsOf (y .kind) * termsOf (y .kind) (y .input)
-unfolding storedLen
-record-end y = omega arith
