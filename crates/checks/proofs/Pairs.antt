@@ -5,8 +5,8 @@ use mathlib.Core.Path.{_≡_}
 use mathlib.Core.Bool.{Bool, true, _&&_, and-eq-true-iff}
 use borrow.Author.Tests.{le-leb, lt-leb}
 use lib.Dec.{leb}
-use Rattle.records.specs.Faults.{unless}
-use Rattle.records.proofs.Tests.{unless-none}
+use Rattle.fields.specs.Faults.{unless}
+use Rattle.fields.proofs.Tests.{unless-none}
 
 -- of two comparisons: both hold, or one does not
 module _ (a b c d k : ℕ) where

@@ -7,9 +7,9 @@ use mathlib.Core.List.{List}
 use borrow.Author.Tests.{leb-true, eqb-true}
 use lib.Dec.{leb, eqb}
 use lib.ListN.{length}
-use Rattle.records.specs.Faults.{first}
-use Rattle.records.specs.Shape.{bytesOf, rowBytes}
-use Rattle.records.proofs.Tests.{unless-none, first-both, first-assoc}
+use Rattle.fields.specs.Faults.{first}
+use Rattle.fields.specs.Shape.{bytesOf, rowBytes}
+use Rattle.fields.proofs.Tests.{unless-none, first-both, first-assoc}
 use Rattle.network.specs.Network.{tensorOf}
 use Rattle.network.specs.Decode.{decodeOf}
 use Rattle.network.specs.Taken.{Taken}

@@ -9,13 +9,13 @@ use native.Mathlib.Decide.{decLt}
 use lib.Dec.{leb}
 use lib.ListN.{length, getD, replicate, length-replicate, getD-replicate, List·getD-eq-default}
 use lib.Seq.{getD-set-other}
-use Rattle.records.specs.Faults.{first}
-use Rattle.records.specs.Bytes.{byteAt}
-use Rattle.records.specs.Shape.{GoodShape}
+use Rattle.fields.specs.Faults.{first}
+use Rattle.fields.specs.Bytes.{byteAt}
+use Rattle.fields.specs.Shape.{GoodShape}
 use Rattle.records.specs.declared.layer.Layer.{Layer}
 use Rattle.records.specs.declared.layer.Read.{Read}
 use Rattle.records.specs.declared.layer.Read.the-variants.{Refused, Found}
-use Rattle.records.proofs.Tests.{first-both}
+use Rattle.fields.proofs.Tests.{first-both}
 use Rattle.network.specs.Network.{blankShape, blankLayer, emptyNetwork, layerOf, tensorOf}
 use Rattle.network.specs.Head.{pictureAt, headFault}
 use Rattle.network.specs.Decode.{readLayer, stopped, started, startOf, pushed, stepRead, stepFrom, stepOf, runOf, endFault, decodedAs, ranOf, decodeOf}

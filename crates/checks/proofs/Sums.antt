@@ -9,7 +9,7 @@ use lib.Dec.{leb}
 use lib.ListN.{getD}
 use Rattle.records.specs.Layer.{sumsOf, termsOf}
 use Rattle.records.specs.declared.layer.Layer.{Layer}
-use Rattle.records.proofs.Tests.{unless-none}
+use Rattle.fields.proofs.Tests.{unless-none}
 use Rattle.network.specs.Network.{layerOf}
 use Rattle.network.specs.declared.net.Network.{Network}
 use Rattle.bands.specs.Choice.{every}

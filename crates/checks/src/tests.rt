@@ -3,7 +3,7 @@ ghost use mathlib.Core.Path.{_≡_};
 ghost use Prim.Native.Nat.{_+_, _≤_, _<_};
 ghost use lib.ListN.{length};
 ghost use Rattle.records.specs.Layer.{sumsOf, termsOf};
-ghost use Rattle.records.specs.Shape.{GoodShape};
+ghost use Rattle.fields.specs.Shape.{GoodShape};
 ghost use Rattle.network.specs.Network.{tensorOf};
 ghost use Rattle.network.specs.Decode.{decodeOf};
 ghost use Rattle.network.specs.Taken.{Taken};
@@ -12,15 +12,15 @@ use crate::tensors::tensors_of;
 use bands::state::State;
 use bands::state::clean;
 use bands::state::state_fault;
+use fields::faults::first_of;
+use fields::shape::bytes_of;
 use network::file::decode;
 use network::net::Network;
 use network::net::layer;
 use network::net::tensor;
-use records::faults::first_of;
 use records::layer::Layer;
 use records::layer::sums_of;
 use records::layer::terms_of;
-use records::shape::bytes_of;
 
 // The refusal number so far, and the network of the file.
 pub struct Tested {

@@ -7,10 +7,10 @@ use native.Mathlib.Nat.{zero-add}
 use native.Mathlib.Omega.{arith}
 use lib.ListN.{length}
 use lib.Seq.{drop-length}
-use Rattle.records.specs.Faults.{first}
-use Rattle.records.specs.Shape.{bytesOf, rowBytes}
+use Rattle.fields.specs.Faults.{first}
+use Rattle.fields.specs.Shape.{bytesOf, rowBytes}
 use Rattle.records.specs.declared.layer.Layer.{Layer}
-use Rattle.records.proofs.Tests.{first-none}
+use Rattle.fields.proofs.Tests.{first-none}
 use Rattle.network.specs.Network.{layerOf, tensorOf, placeOf}
 use Rattle.network.specs.Decode.{decodeOf}
 use Rattle.network.specs.Replace.{replaceFault}

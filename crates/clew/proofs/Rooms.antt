@@ -6,11 +6,11 @@ use mathlib.Core.List.{List}
 use native.Mathlib.Nat.{mul-le-mul-right}
 use native.Mathlib.Omega.{arith}
 use lib.ListN.{length}
-use Rattle.records.specs.Shape.{bytesOf, rowBytes, GoodShape}
-use Rattle.records.specs.Stored.{storedLen}
+use Rattle.fields.specs.Shape.{bytesOf, rowBytes, GoodShape}
+use Rattle.fields.specs.Stored.{storedLen}
 use Rattle.records.specs.Layer.{sumsOf, termsOf, fixedOf, weightsAt, recordLen}
 use Rattle.records.specs.declared.layer.Layer.{Layer}
-use Rattle.records.proofs.Shapes.{mul-most}
+use Rattle.fields.proofs.Shapes.{mul-most}
 use Rattle.network.specs.Network.{layerOf, placeOf}
 use Rattle.network.specs.declared.net.Network.{Network}
 use Rattle.network.specs.Replace.{replaceFault}

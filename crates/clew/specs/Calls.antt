@@ -4,14 +4,14 @@
 use Prim.Native.Nat.{ℕ, zero, suc, _+_, _-_, _*_}
 use mathlib.Core.List.{List, [], _∷_}
 use lib.ListN.{length}
-use Rattle.records.specs.Faults.{firstFault}
+use Rattle.fields.specs.Faults.{firstFault}
 use Rattle.records.specs.declared.layer.Layer.{Layer}
 use Rattle.network.specs.Network.{layerOf, tensorOf, placeOf}
 use Rattle.network.specs.Decode.{decodeOf}
 use Rattle.network.specs.Replace.{replaceFault}
 use Rattle.network.specs.declared.net.Network.{Network}
 use Rattle.windows.specs.Lists.{pasted}
-use Rattle.records.specs.Shape.{rowBytes}
+use Rattle.fields.specs.Shape.{rowBytes}
 use Rattle.layers.specs.Row.{tensorAt}
 use Rattle.layers.specs.Sums.{layerSums}
 use Rattle.bands.specs.State.{allStale, allEmpty, loaded, changed, replaced}

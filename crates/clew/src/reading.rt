@@ -7,8 +7,8 @@ use bands::state::State;
 use checks::tests::slice_fault;
 use checks::tests::stale_fault;
 use checks::tests::test_call;
+use fields::faults::first_of;
 use network::net::place;
-use records::faults::first_of;
 use windows::write::copy_in;
 
 pub fn read(file: &[u8], sums: &[u32], area: &[u8], state: State, out: &mut [u8]) -> Outcome

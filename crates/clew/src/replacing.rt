@@ -1,7 +1,7 @@
 // Replace layer: writes a record over the one in place, and its sums.
 ghost use mathlib.Core.Path.{_≡_};
 ghost use Prim.Native.Nat.{_+_, _≤_};
-ghost use Rattle.records.specs.Shape.{GoodShape};
+ghost use Rattle.fields.specs.Shape.{GoodShape};
 ghost use Rattle.records.specs.Layer.{sumsOf, termsOf, recordLen};
 ghost use Rattle.clew.specs.Calls.{replaceOf};
 use crate::outcome::Outcome;
@@ -10,6 +10,7 @@ use bands::state::State;
 use bands::state::after_replace;
 use checks::tests::layer_fault;
 use checks::tests::test_call;
+use fields::stored::stored_len;
 use layers::sums::put_sums;
 use network::net::layer;
 use network::replace::replace_fault;
@@ -17,7 +18,6 @@ use records::layer::Kind;
 use records::layer::Layer;
 use records::layer::sums_of;
 use records::layer::terms_of;
-use records::stored::stored_len;
 use windows::write::copy_in;
 
 // Where a layer's record ends in the file.

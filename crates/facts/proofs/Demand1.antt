@@ -7,8 +7,8 @@ use mathlib.Core.Bool.{Bool, true, false}
 use mathlib.Core.List.{List}
 use native.Mathlib.Omega.{arith}
 use lib.ListN.{length}
-use Rattle.records.specs.Faults.{unless, first}
-use Rattle.records.proofs.Tests.{first-assoc}
+use Rattle.fields.specs.Faults.{unless, first}
+use Rattle.fields.proofs.Tests.{first-assoc}
 use Rattle.network.specs.Network.{layerOf}
 use Rattle.network.specs.Decode.{decodeOf}
 use Rattle.network.specs.Replace.{replaceFault}

@@ -13,7 +13,7 @@ use Rattle.numbers.specs.Addition.{offset}
 use Rattle.numbers.proofs.Whole.{nat, less, times, size}
 use Rattle.numbers.proofs.Rescaled.{distance}
 use Rattle.numbers.proofs.Added.{offset-small, sum-small}
-use Rattle.records.specs.Shape.{bytesOf}
+use Rattle.fields.specs.Shape.{bytesOf}
 use Rattle.records.specs.Layer.{sumsOf, termsOf, fixedOf}
 use Rattle.records.specs.declared.layer.Kind.{Kind}
 use Rattle.records.specs.declared.layer.Kind.the-variants.{Convolution, Fully, Addition}

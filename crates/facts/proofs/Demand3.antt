@@ -5,7 +5,7 @@ use mathlib.Core.Path.{_≡_, refl, sym, _∙_, ap}
 use mathlib.Core.Bool.{true}
 use mathlib.Core.List.{List}
 use native.Mathlib.Omega.{arith}
-use Rattle.records.proofs.Tests.{first-both}
+use Rattle.fields.proofs.Tests.{first-both}
 use Rattle.network.specs.Network.{tensorOf, placeOf}
 use Rattle.network.specs.declared.net.Network.{Network}
 use Rattle.layers.specs.Row.{tensorAt}

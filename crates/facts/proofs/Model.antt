@@ -5,9 +5,9 @@ use Prim.Native.Nat.{ℕ, _<_}
 use mathlib.Core.Path.{_≡_}
 use mathlib.Core.List.{List, _++_}
 use lib.ListN.{take, replicate}
-use Rattle.records.specs.Shape.{rowBytes}
+use Rattle.fields.specs.Shape.{rowBytes}
 use Rattle.records.specs.Layer.{sumsOf, recordLen}
-use Rattle.records.specs.declared.shape.Shape.{Shape}
+use Rattle.fields.specs.declared.shape.Shape.{Shape}
 use Rattle.records.specs.declared.layer.Layer.{Layer}
 use Rattle.network.specs.Network.{layerOf, tensorOf, placeOf, zeroOf}
 use Rattle.network.specs.Decode.{decodeOf}

@@ -7,10 +7,10 @@ use native.Mathlib.Bridge.{le-by-compare, IsLe}
 use native.Mathlib.Omega.{arith}
 use lib.Dec.{leb}
 use lib.ListN.{length}
-use Rattle.records.specs.Bytes.{byteAt}
-use Rattle.records.specs.Faults.{first, within, biasFault, clampFault, paddingFault, spareFault, cutFault}
-use Rattle.records.specs.Shape.{sizeFault}
-use Rattle.records.specs.Stored.{biasFaults, storedFault}
+use Rattle.fields.specs.Bytes.{byteAt}
+use Rattle.fields.specs.Faults.{first, within, biasFault, clampFault, paddingFault, spareFault, cutFault}
+use Rattle.fields.specs.Shape.{sizeFault}
+use Rattle.fields.specs.Stored.{biasFaults, storedFault}
 use Rattle.records.specs.Layer.{answer}
 use Rattle.records.specs.Mark.{markAt, fixedLen}
 use Rattle.records.specs.Conv.{convShape, readConvAs}

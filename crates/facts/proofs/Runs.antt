@@ -7,9 +7,9 @@ use native.Mathlib.Nat.{mul-le-mul-right, zero-add}
 use native.Mathlib.Omega.{arith}
 use lib.ListN.{length}
 use lib.Seq.{sets, sets-eq, take-all}
-use Rattle.records.specs.Shape.{bytesOf, rowBytes}
+use Rattle.fields.specs.Shape.{bytesOf, rowBytes}
 use Rattle.records.specs.Layer.{sumsOf, recordLen}
-use Rattle.records.specs.declared.shape.Shape.{Shape}
+use Rattle.fields.specs.declared.shape.Shape.{Shape}
 use Rattle.records.specs.declared.layer.Layer.{Layer}
 use Rattle.network.specs.Network.{layerOf, tensorOf, placeOf, zeroOf}
 use Rattle.network.specs.Taken.{Taken}

@@ -7,10 +7,10 @@ use native.Mathlib.Nat.{zero-add, mul-le-mul-right}
 use native.Mathlib.Omega.{arith}
 use lib.ListN.{length, length-set, length-replicate}
 use lib.Seq.{sets, length-sets}
-use Rattle.records.specs.Faults.{firstFault}
-use Rattle.records.specs.Shape.{rowBytes}
-use Rattle.records.specs.declared.shape.Shape.{Shape}
-use Rattle.records.proofs.Tests.{first-both}
+use Rattle.fields.specs.Faults.{firstFault}
+use Rattle.fields.specs.Shape.{rowBytes}
+use Rattle.fields.specs.declared.shape.Shape.{Shape}
+use Rattle.fields.proofs.Tests.{first-both}
 use Rattle.network.specs.Network.{layerOf, tensorOf}
 use Rattle.network.specs.Decode.{decodeOf}
 use Rattle.network.specs.Replace.{replaceFault}

@@ -1,11 +1,11 @@
 -- The examples P1 to P12, by computing.
 -- Assumes nothing.
 use mathlib.Core.Path.{refl}
-use Rattle.records.specs.Bytes.{signed}
-use Rattle.records.specs.Faults.{first, within, biasFault, clampFault, paddingFault, spareFault, cutFault}
+use Rattle.fields.specs.Bytes.{signed}
+use Rattle.fields.specs.Faults.{first, within, biasFault, clampFault, paddingFault, spareFault, cutFault}
 use Rattle.records.specs.Mark.{isMark, markAt}
-use Rattle.records.specs.Shape.{bytesOf, sizeFault}
-use Rattle.records.specs.Stored.{biasFaults, storedLen, storedFault}
+use Rattle.fields.specs.Shape.{bytesOf, sizeFault}
+use Rattle.fields.specs.Stored.{biasFaults, storedLen, storedFault}
 use Rattle.records.specs.Layer.{answer}
 use Rattle.records.specs.Conv.{convOutput, convShape, convTerms, readConvAs}
 use Rattle.network.specs.Head.{pictureAt, headMark, headFault}

@@ -6,8 +6,8 @@ use mathlib.Core.List.{List, _++_, append-assoc}
 use native.Mathlib.Omega.{arith}
 use lib.ListN.{length, replicate, length-append, length-take, length-replicate}
 use lib.Seq.{take-at, drop-at}
-use Rattle.records.specs.Shape.{bytesOf, rowBytes}
-use Rattle.records.specs.declared.shape.Shape.{Shape}
+use Rattle.fields.specs.Shape.{bytesOf, rowBytes}
+use Rattle.fields.specs.declared.shape.Shape.{Shape}
 use Rattle.windows.specs.Lists.{joined, part}
 use Rattle.windows.proofs.Pasted.{part-length, joined-length, joined-add, joined-part}
 use Rattle.layers.specs.Row.{tensorAt}

@@ -6,7 +6,7 @@ use mathlib.Core.Path.{_≡_}
 use mathlib.Core.Logic.{_≢_, _⊎_}
 use mathlib.Core.List.{List, [], _∷_}
 use lib.ListN.{length}
-use Rattle.records.specs.Faults.{firstFault}
+use Rattle.fields.specs.Faults.{firstFault}
 use Rattle.network.specs.Network.{layerOf}
 use Rattle.network.specs.Decode.{decodeOf}
 use Rattle.network.specs.Replace.{replaceFault}

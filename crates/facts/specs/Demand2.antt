@@ -12,8 +12,8 @@ use Rattle.numbers.specs.Finish.{finished}
 use Rattle.numbers.specs.Addition.{offset}
 use Rattle.windows.specs.Lists.{joined, part}
 use Rattle.windows.specs.Window.{windowOf}
-use Rattle.records.specs.Bytes.{i32At}
-use Rattle.records.specs.Shape.{rowBytes}
+use Rattle.fields.specs.Bytes.{i32At}
+use Rattle.fields.specs.Shape.{rowBytes}
 use Rattle.records.specs.Layer.{sumsOf}
 use Rattle.records.specs.declared.layer.Kind.{Kind}
 use Rattle.records.specs.declared.layer.Kind.the-variants.{Convolution, Fully, Addition}

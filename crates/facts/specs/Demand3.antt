@@ -9,7 +9,7 @@ use Rattle.network.specs.Network.{tensorOf, placeOf}
 use Rattle.network.specs.Decode.{decodeOf}
 use Rattle.network.specs.declared.net.Network.{Network}
 use Rattle.windows.specs.Lists.{part}
-use Rattle.records.specs.Shape.{bytesOf, rowBytes}
+use Rattle.fields.specs.Shape.{bytesOf, rowBytes}
 use Rattle.bands.specs.Within.{In}
 use Rattle.bands.specs.State.{allEmpty, clean}
 use Rattle.bands.specs.declared.state.State.{State}

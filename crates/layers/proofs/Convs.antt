@@ -6,12 +6,12 @@ use Prim.Native.Nat.{ℕ, _+_, _-_, _*_, _/_, _≤_, _<_}
 use native.Mathlib.Nat.{mul-le-mul-left, mul-le-mul-right, div-add-mod'}
 use native.Mathlib.Omega.{arith}
 use lib.ListN.{length, take}
-use Rattle.records.specs.Shape.{bytesOf, GoodShape, rowBytes}
+use Rattle.fields.specs.Shape.{bytesOf, GoodShape, rowBytes}
 use Rattle.records.specs.Conv.{convOutput}
-use Rattle.records.specs.declared.shape.Shape.{Shape}
+use Rattle.fields.specs.declared.shape.Shape.{Shape}
 use Rattle.records.specs.declared.conv.Conv.{Conv}
 use Rattle.records.specs.declared.layer.Layer.{Layer}
-use Rattle.records.proofs.Shapes.{mul-most}
+use Rattle.fields.proofs.Shapes.{mul-most}
 use Rattle.windows.specs.Lists.{pasted, joined, part}
 use Rattle.windows.specs.Window.{Sound, sizeOf, termsOf, windowOf}
 use Rattle.windows.specs.declared.window.Window.{Window}

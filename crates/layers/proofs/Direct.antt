@@ -17,7 +17,7 @@ use Rattle.numbers.specs.Rescale.{rescaled}
 use Rattle.numbers.specs.Finish.{finished}
 use Rattle.numbers.proofs.Totals.{true-sum, within}
 use Rattle.numbers.proofs.Whole.{small-fits}
-use Rattle.records.specs.Bytes.{i32At}
+use Rattle.fields.specs.Bytes.{i32At}
 use Rattle.records.specs.Layer.{sumsOf}
 use Rattle.records.specs.declared.layer.Layer.{Layer}
 use Rattle.windows.specs.Lists.{joined, part}

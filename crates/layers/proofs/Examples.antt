@@ -4,13 +4,13 @@ use mathlib.Core.Path.{_≡_, refl}
 use mathlib.Core.List.{List, [], _∷_}
 use Prim.Native.Nat.{ℕ, _^_}
 use lib.IntN.{ℤ, pos}
-use Rattle.records.specs.Bytes.{signed}
-use Rattle.records.specs.Faults.{first, within, clampFault, paddingFault, cutFault, biasFault}
-use Rattle.records.specs.Shape.{bytesOf, sizeFault}
-use Rattle.records.specs.Stored.{biasFaults, storedLen, storedFault}
+use Rattle.fields.specs.Bytes.{signed}
+use Rattle.fields.specs.Faults.{first, within, clampFault, paddingFault, cutFault, biasFault}
+use Rattle.fields.specs.Shape.{bytesOf, sizeFault}
+use Rattle.fields.specs.Stored.{biasFaults, storedLen, storedFault}
 use Rattle.records.specs.Layer.{answer}
 use Rattle.records.specs.Conv.{convOutput, convShape, convTerms, readConvAs, readConv}
-use Rattle.records.specs.declared.shape.Shape.{Shape}
+use Rattle.fields.specs.declared.shape.Shape.{Shape}
 use Rattle.records.specs.declared.conv.Conv.{Conv}
 use Rattle.records.specs.declared.add.Add.{Add}
 use Rattle.records.specs.declared.layer.Kind.the-variants.{Convolution}

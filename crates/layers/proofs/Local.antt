@@ -9,12 +9,12 @@ use native.Mathlib.Omega.{arith}
 use lib.ListN.{length, getD, drop}
 use lib.Seq.{getD-take, getD-drop, take-all}
 use Rattle.numbers.specs.Total.{sum}
-use Rattle.records.specs.Bytes.{i32At}
-use Rattle.records.specs.Shape.{bytesOf, rowBytes}
-use Rattle.records.specs.Stored.{storedLen}
+use Rattle.fields.specs.Bytes.{i32At}
+use Rattle.fields.specs.Shape.{bytesOf, rowBytes}
+use Rattle.fields.specs.Stored.{storedLen}
 use Rattle.records.specs.Layer.{sumsOf, termsOf, fixedOf, biasesAt, weightsAt, recordLen}
 use Rattle.records.specs.Full.{fullOutput}
-use Rattle.records.specs.declared.shape.Shape.{Shape}
+use Rattle.fields.specs.declared.shape.Shape.{Shape}
 use Rattle.records.specs.declared.conv.Conv.{Conv}
 use Rattle.records.specs.declared.full.Full.{Full}
 use Rattle.records.specs.declared.add.Add.{Add}

@@ -6,10 +6,10 @@ use Prim.Native.Nat.{ℕ, _+_, _-_, _*_, _≤_, _<_}
 use native.Mathlib.Nat.{mul-le-mul-right, mul-one}
 use native.Mathlib.Omega.{arith}
 use lib.ListN.{length, getD}
-use Rattle.records.specs.Shape.{bytesOf, rowBytes}
+use Rattle.fields.specs.Shape.{bytesOf, rowBytes}
 use Rattle.records.specs.Conv.{convOutput}
 use Rattle.records.specs.Full.{fullOutput}
-use Rattle.records.specs.declared.shape.Shape.{Shape}
+use Rattle.fields.specs.declared.shape.Shape.{Shape}
 use Rattle.records.specs.declared.conv.Conv.{Conv}
 use Rattle.records.specs.declared.full.Full.{Full}
 use Rattle.records.specs.declared.add.Add.{Add}

@@ -10,7 +10,7 @@ use Rattle.numbers.specs.Total.{Sums, sum, dot, totalFrom, totalOf}
 use Rattle.numbers.specs.Rescale.{rescaled}
 use Rattle.numbers.specs.Finish.{finished}
 use Rattle.numbers.proofs.Totals.{sums, within}
-use Rattle.records.specs.Bytes.{i32At}
+use Rattle.fields.specs.Bytes.{i32At}
 use Rattle.windows.proofs.Bytes.{Bytes}
 use Rattle.windows.proofs.Pasted.{joined-length}
 use Rattle.layers.specs.Outputs.{weightsOf, outputOf, outputsOf, OutputsReady}

@@ -7,7 +7,7 @@ use lib.ListN.{length, getD}
 use Rattle.numbers.specs.Total.{totalOf}
 use Rattle.numbers.specs.Rescale.{rescaled}
 use Rattle.numbers.specs.Finish.{finished}
-use Rattle.records.specs.Bytes.{i32At}
+use Rattle.fields.specs.Bytes.{i32At}
 use Rattle.windows.specs.Lists.{joined, part}
 use Rattle.layers.specs.declared.outputs.Outputs.{Outputs}
 

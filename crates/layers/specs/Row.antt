@@ -4,12 +4,12 @@ use Prim.Native.Nat.{ℕ, _+_, _*_, _≤_}
 use mathlib.Core.Path.{_≡_}
 use mathlib.Core.List.{List}
 use lib.ListN.{length}
-use Rattle.records.specs.Shape.{bytesOf, GoodShape, rowBytes}
+use Rattle.fields.specs.Shape.{bytesOf, GoodShape, rowBytes}
 use Rattle.records.specs.Layer.{termsOf}
 use Rattle.records.specs.Conv.{convOutput, ConvOk}
 use Rattle.records.specs.Full.{fullOutput, FullOk}
 use Rattle.records.specs.Add.{AddOk}
-use Rattle.records.specs.declared.shape.Shape.{Shape}
+use Rattle.fields.specs.declared.shape.Shape.{Shape}
 use Rattle.records.specs.declared.conv.Conv.{Conv}
 use Rattle.records.specs.declared.full.Full.{Full}
 use Rattle.records.specs.declared.add.Add.{Add}

@@ -2,7 +2,7 @@
 ghost use mathlib.Core.Path.{_≡_};
 ghost use Prim.Native.Nat.{_+_, _*_, _≤_, _<_};
 ghost use lib.ListN.{length};
-ghost use Rattle.records.specs.Shape.{bytesOf, GoodShape, rowBytes};
+ghost use Rattle.fields.specs.Shape.{bytesOf, GoodShape, rowBytes};
 ghost use Rattle.records.specs.Add.{AddOk};
 ghost use Rattle.windows.specs.Lists.{pasted};
 ghost use Rattle.layers.specs.Add.{addByte, addRow};

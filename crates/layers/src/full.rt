@@ -2,15 +2,15 @@
 ghost use mathlib.Core.Path.{_≡_};
 ghost use Prim.Native.Nat.{_+_, _≤_};
 ghost use lib.ListN.{length};
-ghost use Rattle.records.specs.Shape.{bytesOf, GoodShape};
+ghost use Rattle.fields.specs.Shape.{bytesOf, GoodShape};
 ghost use Rattle.windows.specs.Lists.{pasted};
 ghost use Rattle.layers.specs.Full.{fullOutputs, fullRow};
 ghost use Rattle.layers.specs.Row.{FullReady, tensorAt};
 use crate::outputs::Outputs;
 use crate::outputs::put_within;
+use fields::shape::bytes_of;
 use records::full::Full;
 use records::layer::Layer;
-use records::shape::bytes_of;
 
 fn full_outputs(y: Layer, f: Full, z: u8) -> Outputs
     requires { ⌜ y .start ≤ 65536 ⌝ }

@@ -2,7 +2,7 @@
 ghost use mathlib.Core.Path.{_≡_};
 ghost use Prim.Native.Nat.{_+_, _-_, _*_, _≤_, _<_};
 ghost use lib.ListN.{length};
-ghost use Rattle.records.specs.Shape.{rowBytes};
+ghost use Rattle.fields.specs.Shape.{rowBytes};
 ghost use Rattle.windows.specs.Lists.{pasted, joined};
 ghost use Rattle.layers.specs.Row.{Ready, rowOf, tensorAt};
 use crate::add::add_row;

@@ -2,7 +2,7 @@
 ghost use mathlib.Core.Path.{_≡_};
 ghost use Prim.Native.Nat.{_+_, _*_, _≤_};
 ghost use lib.ListN.{length};
-ghost use Rattle.records.specs.Shape.{GoodShape};
+ghost use Rattle.fields.specs.Shape.{GoodShape};
 ghost use Rattle.records.specs.Layer.{sumsOf, termsOf, weightsAt};
 ghost use Rattle.windows.specs.Lists.{pasted};
 ghost use Rattle.layers.specs.Sums.{layerSums};

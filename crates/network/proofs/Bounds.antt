@@ -5,18 +5,18 @@ use mathlib.Core.Path.{ap}
 use mathlib.Core.List.{List}
 use native.Mathlib.Omega.{arith}
 use lib.ListN.{getD}
-use Rattle.records.specs.Shape.{bytesOf}
+use Rattle.fields.specs.Shape.{bytesOf}
 use Rattle.records.specs.Conv.{convOutput}
 use Rattle.records.specs.Full.{fullOutput}
 use Rattle.records.specs.Layer.{sumsOf, termsOf}
-use Rattle.records.specs.declared.shape.Shape.{Shape}
+use Rattle.fields.specs.declared.shape.Shape.{Shape}
 use Rattle.records.specs.declared.conv.Conv.{Conv}
 use Rattle.records.specs.declared.full.Full.{Full}
 use Rattle.records.specs.declared.add.Add.{Add}
 use Rattle.records.specs.declared.layer.Kind.{Kind}
 use Rattle.records.specs.declared.layer.Kind.the-variants.{Convolution, Fully, Addition}
 use Rattle.records.specs.declared.layer.Layer.{Layer}
-use Rattle.records.proofs.Shapes.{mul-most}
+use Rattle.fields.proofs.Shapes.{mul-most}
 use Rattle.network.specs.Network.{layerOf, tensorOf, zeroBy, zeroOf}
 use Rattle.network.specs.Taken.{ConvTaken, FullTaken, AddTaken, KindTaken, Taken}
 use Rattle.network.specs.declared.net.Network.{Network}

@@ -4,11 +4,11 @@ use Prim.Native.Nat.{ℕ}
 use mathlib.Core.Path.{_≡_, refl}
 use mathlib.Core.List.{List, [], _∷_, _++_, map}
 use lib.ListN.{set, take, drop, replicate}
-use Rattle.records.specs.Bytes.{signed}
-use Rattle.records.specs.Faults.{first, within, biasFault, clampFault, paddingFault, spareFault, cutFault}
+use Rattle.fields.specs.Bytes.{signed}
+use Rattle.fields.specs.Faults.{first, within, biasFault, clampFault, paddingFault, spareFault, cutFault}
 use Rattle.records.specs.Mark.{isMark, markAt}
-use Rattle.records.specs.Shape.{bytesOf, sizeFault, sameShape}
-use Rattle.records.specs.Stored.{biasFaults, storedLen, storedFault}
+use Rattle.fields.specs.Shape.{bytesOf, sizeFault, sameShape}
+use Rattle.fields.specs.Stored.{biasFaults, storedLen, storedFault}
 use Rattle.records.specs.Layer.{answer}
 use Rattle.records.specs.Conv.{convOutput, convShape, convTerms, readConvAs}
 use Rattle.records.specs.Full.{fullOutput, readFull}

@@ -7,7 +7,7 @@ use native.Mathlib.Omega.{arith}
 use borrow.Author.Count.{below-more}
 use lib.ListN.{length}
 use lib.Seq.{getD-set-same, getD-set-other}
-use Rattle.records.specs.Shape.{bytesOf, GoodShape}
+use Rattle.fields.specs.Shape.{bytesOf, GoodShape}
 use Rattle.records.specs.Layer.{sumsOf, recordLen}
 use Rattle.records.specs.declared.layer.Kind.{Kind}
 use Rattle.records.specs.declared.layer.Kind.the-variants.{Convolution, Fully, Addition}

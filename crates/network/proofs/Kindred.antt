@@ -9,24 +9,24 @@ use borrow.Author.Count.{below-more}
 use borrow.Author.Tests.{eqb-true}
 use lib.IntN.{natAbs}
 use lib.ListN.{length}
-use Rattle.records.specs.Faults.{first, spareFault}
-use Rattle.records.specs.Bytes.{byteAt, u16At, u32At, i32At}
+use Rattle.fields.specs.Faults.{first, spareFault}
+use Rattle.fields.specs.Bytes.{byteAt, u16At, u32At, i32At}
 use Rattle.records.specs.Mark.{isMark, markAt}
-use Rattle.records.specs.Shape.{sizeFault}
-use Rattle.records.specs.Stored.{biasFaults}
+use Rattle.fields.specs.Shape.{sizeFault}
+use Rattle.fields.specs.Stored.{biasFaults}
 use Rattle.records.specs.Layer.{sumsOf, termsOf, fixedOf, biasesAt, weightsAt, recordLen}
 use Rattle.records.specs.Conv.{convAt, convFields, convOutput, convShape, ConvOk}
 use Rattle.records.specs.Full.{fullAt, fullFields, fullOutput, FullOk}
 use Rattle.records.specs.Add.{addAt, addFields, addShape, AddOk}
-use Rattle.records.specs.declared.shape.Shape.{Shape}
+use Rattle.fields.specs.declared.shape.Shape.{Shape}
 use Rattle.records.specs.declared.conv.Conv.{Conv}
 use Rattle.records.specs.declared.layer.Kind.{Kind}
 use Rattle.records.specs.declared.layer.Kind.the-variants.{Convolution, Fully, Addition}
 use Rattle.records.specs.declared.layer.Layer.{Layer}
 use Rattle.records.specs.declared.mark.Mark.{Mark}
 use Rattle.records.specs.declared.mark.Mark.the-variants.{CV, FU, AD}
-use Rattle.records.proofs.Tests.{first-both, first-assoc, unless-none}
-use Rattle.records.proofs.Biases.{biases-in}
+use Rattle.fields.proofs.Tests.{first-both, first-assoc, unless-none}
+use Rattle.fields.proofs.Biases.{biases-in}
 use Rattle.records.proofs.Convs.{conv-ok}
 use Rattle.records.proofs.Fulls.{full-ok}
 use Rattle.records.proofs.Adds.{add-ok}

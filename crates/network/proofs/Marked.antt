@@ -6,16 +6,16 @@ use mathlib.Core.List.{List}
 use native.Mathlib.Omega.{arith}
 use native.Mathlib.Nat.{min-eq-left}
 use lib.ListN.{length}
-use Rattle.records.specs.Faults.{cutFault}
-use Rattle.records.specs.Bytes.{byteAt}
+use Rattle.fields.specs.Faults.{cutFault}
+use Rattle.fields.specs.Bytes.{byteAt}
 use Rattle.records.specs.Mark.{markAt, fixedLen}
-use Rattle.records.specs.Shape.{GoodShape}
+use Rattle.fields.specs.Shape.{GoodShape}
 use Rattle.records.specs.declared.layer.Layer.{Layer}
 use Rattle.records.specs.declared.layer.Read.{Read}
 use Rattle.records.specs.declared.layer.Read.the-variants.{Refused, Found}
 use Rattle.records.specs.declared.mark.Mark.{Mark}
 use Rattle.records.specs.declared.mark.Mark.the-variants.{CV, FU, AD, Other}
-use Rattle.records.proofs.Tests.{cut-there}
+use Rattle.fields.proofs.Tests.{cut-there}
 use Rattle.records.proofs.Answers.{Answered, answered-map, answered-found}
 use Rattle.records.proofs.Taken.{Left, ConvFound, FullFound, AddFound, conv-found, full-found, add-found}
 use Rattle.network.proofs.Passing.{unless-cut}

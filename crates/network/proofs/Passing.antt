@@ -7,10 +7,10 @@ use native.Mathlib.Omega.{arith}
 use native.Mathlib.Nat.{add-assoc}
 use lib.Dec.{leb·zero}
 use lib.ListN.{length}
-use Rattle.records.specs.Faults.{first, spareFault, cutFault}
-use Rattle.records.specs.Bytes.{byteAt}
+use Rattle.fields.specs.Faults.{first, spareFault, cutFault}
+use Rattle.fields.specs.Bytes.{byteAt}
 use Rattle.records.specs.Mark.{markAt, fixedLen}
-use Rattle.records.specs.Stored.{storedLen, biasFaults, storedFault}
+use Rattle.fields.specs.Stored.{storedLen, biasFaults, storedFault}
 use Rattle.records.specs.Layer.{answer, sumsOf, termsOf, fixedOf, recordLen}
 use Rattle.records.specs.Conv.{convAt, convTerms, readConvAs}
 use Rattle.records.specs.Full.{fullAt, fullFields, readFull}
@@ -25,7 +25,7 @@ use Rattle.records.specs.declared.layer.Read.{Read}
 use Rattle.records.specs.declared.layer.Read.the-variants.{Found}
 use Rattle.records.specs.declared.mark.Mark.{Mark}
 use Rattle.records.specs.declared.mark.Mark.the-variants.{CV, FU, AD, Other}
-use Rattle.records.proofs.Tests.{first-both, first-none, first-zero, first-assoc}
+use Rattle.fields.proofs.Tests.{first-both, first-none, first-zero, first-assoc}
 use Rattle.records.proofs.Answers.{Answered, answer-ok, answer-found, answered-found}
 use Rattle.network.specs.Network.{tensorOf}
 use Rattle.network.specs.Decode.{unlessCut, readMarked, readLayer}

@@ -6,7 +6,7 @@ use mathlib.Core.List.{List}
 use native.Mathlib.Omega.{arith}
 use native.Mathlib.Decide.{decLt}
 use lib.ListN.{length}
-use Rattle.records.specs.Shape.{bytesOf}
+use Rattle.fields.specs.Shape.{bytesOf}
 use Rattle.records.specs.Layer.{sumsOf, recordLen}
 use Rattle.network.specs.Network.{layerOf, tensorOf, placeOf}
 use Rattle.network.specs.Taken.{Taken}

@@ -10,9 +10,9 @@ use native.Mathlib.Numerals.{add-one}
 use borrow.Author.Tests.{eq-eqb, ne-eqb}
 use lib.Dec.{eqb}
 use lib.ListN.{length}
-use Rattle.records.specs.Faults.{unless}
-use Rattle.records.specs.Bytes.{byteAt}
-use Rattle.records.specs.Stored.{storedLen}
+use Rattle.fields.specs.Faults.{unless}
+use Rattle.fields.specs.Bytes.{byteAt}
+use Rattle.fields.specs.Stored.{storedLen}
 use Rattle.records.specs.Layer.{sumsOf, fixedOf, recordLen}
 use Rattle.records.specs.declared.layer.Kind.{Kind}
 use Rattle.records.specs.declared.layer.Kind.the-variants.{Convolution, Fully, Addition}

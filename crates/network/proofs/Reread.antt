@@ -6,8 +6,8 @@ use mathlib.Core.List.{List}
 use native.Mathlib.Omega.{arith}
 use lib.ListN.{length, set, getD, length-set, List·getD-map}
 use lib.Seq.{getD-set-same, getD-set-other, set-set, set-comm, map-set-same}
-use Rattle.records.specs.Bytes.{byteAt}
-use Rattle.records.specs.Faults.{first, cutFault}
+use Rattle.fields.specs.Bytes.{byteAt}
+use Rattle.fields.specs.Faults.{first, cutFault}
 use Rattle.records.specs.Mark.{isMark, markAt}
 use Rattle.records.specs.Layer.{sumsOf, recordLen}
 use Rattle.records.specs.declared.layer.Kind.{Kind}
@@ -15,7 +15,7 @@ use Rattle.records.specs.declared.layer.Layer.{Layer}
 use Rattle.records.specs.declared.layer.Read.the-variants.{Found}
 use Rattle.records.specs.declared.mark.Mark.{Mark}
 use Rattle.records.specs.declared.mark.Mark.the-variants.{CV, FU, AD, Other}
-use Rattle.records.proofs.Tests.{first-both}
+use Rattle.fields.proofs.Tests.{first-both}
 use Rattle.network.specs.Network.{blankLayer, layerOf, tensorOf}
 use Rattle.network.specs.Head.{pictureAt, headMark, headFault}
 use Rattle.network.specs.Decode.{readMarked, readLayer, pushed, runOf, startOf, endFault, decodeOf}

@@ -6,7 +6,7 @@ use mathlib.Core.List.{List, _++_}
 use native.Mathlib.Omega.{arith}
 use lib.ListN.{length, take, drop, length-append, length-drop, List·getD-append}
 use lib.Seq.{length-take-le, take-length, getD-take, getD-drop, getD-append-add, ext-getD}
-use Rattle.records.specs.Bytes.{byteAt}
+use Rattle.fields.specs.Bytes.{byteAt}
 
 -- the file s with the record r written over from `at`
 abbrev pub rewritten : List ℕ → ℕ → List ℕ → List ℕ

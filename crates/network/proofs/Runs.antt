@@ -7,14 +7,14 @@ use native.Mathlib.Omega.{arith}
 use native.Mathlib.Numerals.{add-one, sub-one}
 use borrow.Author.Tests.{le-leb, lt-leb}
 use lib.ListN.{length, length-set, length-replicate}
-use Rattle.records.specs.Faults.{first}
-use Rattle.records.specs.Bytes.{byteAt}
-use Rattle.records.specs.Shape.{bytesOf, GoodShape}
+use Rattle.fields.specs.Faults.{first}
+use Rattle.fields.specs.Bytes.{byteAt}
+use Rattle.fields.specs.Shape.{bytesOf, GoodShape}
 use Rattle.records.specs.declared.layer.Layer.{Layer}
 use Rattle.records.specs.declared.layer.Read.{Read}
 use Rattle.records.specs.declared.layer.Read.the-variants.{Refused, Found}
-use Rattle.records.proofs.Tests.{first-both, within-in, cut-there}
-use Rattle.records.proofs.Shapes.{size-in, good-shape}
+use Rattle.fields.proofs.Tests.{first-both, within-in, cut-there}
+use Rattle.fields.proofs.Shapes.{size-in, good-shape}
 use Rattle.records.proofs.Answers.{Answered}
 use Rattle.network.specs.Network.{blankShape, blankLayer, emptyNetwork, tensorOf}
 use Rattle.network.specs.Head.{pictureAt, headFault}

@@ -9,7 +9,7 @@ use borrow.Author.Tests.{leb-true}
 use lib.Dec.{leb}
 use lib.ListN.{length, length-set}
 use lib.Seq.{getD-set-same, getD-set-other}
-use Rattle.records.specs.Faults.{first}
+use Rattle.fields.specs.Faults.{first}
 use Rattle.records.specs.declared.layer.Layer.{Layer}
 use Rattle.records.specs.declared.layer.Read.{Read}
 use Rattle.records.specs.declared.layer.Read.the-variants.{Refused, Found}

@@ -8,8 +8,8 @@ use native.Mathlib.Omega.{arith}
 use borrow.Author.Tests.{leb-true, eqb-true}
 use lib.Dec.{leb, eqb}
 use lib.ListN.{length}
-use Rattle.records.specs.Faults.{first}
-use Rattle.records.proofs.Tests.{first-both, unless-none}
+use Rattle.fields.specs.Faults.{first}
+use Rattle.fields.proofs.Tests.{first-both, unless-none}
 use Rattle.network.specs.Decode.{stopped, startOf, endFault, decodedAs, finishOf, ranOf, decodeOf}
 use Rattle.network.specs.Taken.{Taken}
 use Rattle.network.specs.declared.file.Progress.{Progress}

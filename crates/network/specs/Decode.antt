@@ -6,15 +6,15 @@ use mathlib.Core.Bool.{cond}
 use mathlib.Core.List.{List, [], _∷_}
 use lib.Dec.{leb, eqb}
 use lib.ListN.{length, set}
-use Rattle.records.specs.Faults.{unless, firstFault, cutFault}
-use Rattle.records.specs.Bytes.{byteAt}
+use Rattle.fields.specs.Faults.{unless, firstFault, cutFault}
+use Rattle.fields.specs.Bytes.{byteAt}
 use Rattle.records.specs.Mark.{markAt, fixedLen}
-use Rattle.records.specs.Shape.{bytesOf, GoodShape}
+use Rattle.fields.specs.Shape.{bytesOf, GoodShape}
 use Rattle.records.specs.Layer.{sumsOf}
 use Rattle.records.specs.Conv.{readConv}
 use Rattle.records.specs.Full.{readFull}
 use Rattle.records.specs.Add.{readAdd}
-use Rattle.records.specs.declared.shape.Shape.{Shape}
+use Rattle.fields.specs.declared.shape.Shape.{Shape}
 use Rattle.records.specs.declared.layer.Layer.{Layer}
 use Rattle.records.specs.declared.layer.Read.{Read}
 use Rattle.records.specs.declared.layer.Read.the-variants.{Refused, Found}

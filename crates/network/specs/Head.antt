@@ -2,11 +2,11 @@
 -- Assumes nothing.
 use Prim.Native.Nat.{ℕ}
 use mathlib.Core.List.{List, [], _∷_}
-use Rattle.records.specs.Faults.{unless, firstFault, within, spareFault, cutFault}
-use Rattle.records.specs.Bytes.{byteAt, u16At}
+use Rattle.fields.specs.Faults.{unless, firstFault, within, spareFault, cutFault}
+use Rattle.fields.specs.Bytes.{byteAt, u16At}
 use Rattle.records.specs.Mark.{isMark}
-use Rattle.records.specs.Shape.{sizeFault}
-use Rattle.records.specs.declared.shape.Shape.{Shape}
+use Rattle.fields.specs.Shape.{sizeFault}
+use Rattle.fields.specs.declared.shape.Shape.{Shape}
 
 -- rows, columns and channels
 unfoldable pub pictureAt : List ℕ → Shape

@@ -5,9 +5,9 @@ use mathlib.Core.Bool.{Bool, true, _&&_}
 use mathlib.Core.List.{List, [], _∷_}
 use lib.Dec.{eqb}
 use lib.ListN.{length}
-use Rattle.records.specs.Faults.{unless, firstFault, spareFault}
-use Rattle.records.specs.Bytes.{byteAt}
-use Rattle.records.specs.Stored.{biasFaults}
+use Rattle.fields.specs.Faults.{unless, firstFault, spareFault}
+use Rattle.fields.specs.Bytes.{byteAt}
+use Rattle.fields.specs.Stored.{biasFaults}
 use Rattle.records.specs.Layer.{recordLen}
 use Rattle.records.specs.Conv.{convAt, convFields}
 use Rattle.records.specs.Full.{fullAt, fullFields}

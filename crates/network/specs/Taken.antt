@@ -5,8 +5,8 @@ use mathlib.Core.Path.{_≡_}
 use mathlib.Core.List.{List}
 use lib.IntN.{natAbs}
 use lib.ListN.{length}
-use Rattle.records.specs.Bytes.{byteAt, i32At}
-use Rattle.records.specs.Shape.{bytesOf, GoodShape}
+use Rattle.fields.specs.Bytes.{byteAt, i32At}
+use Rattle.fields.specs.Shape.{bytesOf, GoodShape}
 use Rattle.records.specs.Layer.{sumsOf, biasesAt, recordLen}
 use Rattle.records.specs.Conv.{convAt, convOutput, ConvOk}
 use Rattle.records.specs.Full.{fullAt, fullOutput, FullOk}

@@ -2,7 +2,7 @@
 ghost use mathlib.Core.Path.{_≡_};
 ghost use Prim.Native.Nat.{_+_, _≤_, _<_, min};
 ghost use lib.ListN.{length};
-ghost use Rattle.records.specs.Shape.{GoodShape};
+ghost use Rattle.fields.specs.Shape.{GoodShape};
 ghost use Rattle.records.specs.Layer.{sumsOf};
 ghost use Rattle.network.specs.Network.{tensorOf};
 ghost use Rattle.network.specs.Decode.{CanStep, readLayer, startOf, pushed, stopped, stepOf, endFault, decodedAs, decodeOf};
@@ -12,10 +12,11 @@ use crate::net::Network;
 use crate::net::empty_network;
 use crate::net::no_network;
 use crate::net::tensor;
+use fields::faults::cut_fault;
+use fields::faults::first_of;
+use fields::shape::bytes_of;
 use records::add::read_add;
 use records::conv::read_conv;
-use records::faults::cut_fault;
-use records::faults::first_of;
 use records::full::read_full;
 use records::layer::Layer;
 use records::layer::Read;
@@ -23,7 +24,6 @@ use records::layer::sums_of;
 use records::mark::Mark;
 use records::mark::fixed_len;
 use records::mark::mark_at;
-use records::shape::bytes_of;
 
 // A file read so far: the refusal number, or 0 with where the next record begins, how many layers there are, and the
 // network of these.

@@ -2,18 +2,18 @@
 ghost use mathlib.Core.Path.{_≡_};
 ghost use Prim.Native.Nat.{_≤_};
 ghost use lib.ListN.{length};
-ghost use Rattle.records.specs.Shape.{SmallShape};
+ghost use Rattle.fields.specs.Shape.{SmallShape};
 ghost use Rattle.network.specs.Head.{headMark, pictureAt, headFault};
-use records::bytes::u16_at;
-use records::faults::cut_fault;
-use records::faults::filters_fault;
-use records::faults::first_of;
-use records::faults::layers_fault;
-use records::faults::outputs_fault;
-use records::faults::spare_fault;
+use fields::bytes::u16_at;
+use fields::faults::cut_fault;
+use fields::faults::filters_fault;
+use fields::faults::first_of;
+use fields::faults::layers_fault;
+use fields::faults::outputs_fault;
+use fields::faults::spare_fault;
+use fields::shape::Shape;
+use fields::shape::size_fault;
 use records::mark::is_mark;
-use records::shape::Shape;
-use records::shape::size_fault;
 
 fn mark_fault(s: &[u8]) -> u8
     requires { ⌜ 10 ≤ length (now s) ⌝ }

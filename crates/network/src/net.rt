@@ -2,13 +2,13 @@
 ghost use mathlib.Core.Path.{_≡_};
 ghost use Prim.Native.Nat.{_≤_, _<_};
 ghost use Rattle.network.specs.Network.{blankShape, blankLayer, emptyNetwork, tensorOf, placeOf, zeroOf, layerOf};
+use fields::shape::Shape;
 use records::add::Add;
 use records::conv::Conv;
 use records::full::Full;
 use records::layer::Kind;
 use records::layer::Layer;
 use records::layer::Scale;
-use records::shape::Shape;
 
 // The picture's shape and zero-point, the number of layers, the layers, and the bytes of all tensors and the number of
 // all stored sums: what the work area and the sum store must hold.

@@ -4,19 +4,19 @@ ghost use Prim.Native.Nat.{_+_, _*_, _≤_};
 ghost use lib.ListN.{length};
 ghost use Rattle.records.specs.Layer.{sumsOf, fixedOf, recordLen};
 ghost use Rattle.network.specs.Replace.{agree, agreeing, convRecordFault, fullRecordFault, addRecordFault, recordFault, replaceFault};
+use fields::bytes::u16_at;
+use fields::bytes::u32_at;
+use fields::faults::first_of;
+use fields::faults::spare_fault;
+use fields::stored::bias_faults;
 use records::add::add_at;
 use records::add::add_fields;
-use records::bytes::u16_at;
-use records::bytes::u32_at;
 use records::conv::conv_at;
 use records::conv::conv_fields;
-use records::faults::first_of;
-use records::faults::spare_fault;
 use records::full::full_at;
 use records::full::full_fields;
 use records::layer::Kind;
 use records::layer::Layer;
-use records::stored::bias_faults;
 
 // Whether the first n bytes of the record are those of the file from `at`.
 fn agrees(file: &[u8], at: usize, new: &[u8], n: usize) -> bool

@@ -5,12 +5,12 @@ use mathlib.Core.Path.{_≡_}
 use mathlib.Core.Bool.{cond}
 use borrow.Author.Tests.{leb-true}
 use lib.Dec.{leb}
-use Rattle.records.specs.Shape.{sizeFault, sameShape}
+use Rattle.fields.specs.Shape.{sizeFault, sameShape}
 use Rattle.records.specs.Add.{AddOk, addFields, addShape}
-use Rattle.records.specs.declared.shape.Shape.{Shape}
+use Rattle.fields.specs.declared.shape.Shape.{Shape}
 use Rattle.records.specs.declared.add.Add.{Add}
-use Rattle.records.proofs.Tests.{first-both, cond-none, within-in, clamp-in}
-use Rattle.records.proofs.Shapes.{same-equal}
+use Rattle.fields.proofs.Tests.{first-both, cond-none, within-in, clamp-in}
+use Rattle.fields.proofs.Shapes.{same-equal}
 
 pub add-ok : (a : Add) → addFields a ≡ 0 → AddOk a
 add-ok a p =

@@ -3,12 +3,12 @@
 use Prim.Native.Nat.{ℕ, zero, suc, _≤_}
 use mathlib.Core.Path.{_≡_, refl, sym, _∙_, ap, subst⁻¹}
 use native.Mathlib.Omega.{arith}
-use Rattle.records.specs.Faults.{first}
+use Rattle.fields.specs.Faults.{first}
 use Rattle.records.specs.Layer.{answer}
 use Rattle.records.specs.declared.layer.Layer.{Layer}
 use Rattle.records.specs.declared.layer.Read.{Read}
 use Rattle.records.specs.declared.layer.Read.the-variants.{Refused, Found}
-use Rattle.records.proofs.Tests.{met, passed}
+use Rattle.fields.proofs.Tests.{met, passed}
 
 pub answer-found : (f : ℕ) (l : Layer) (n : ℕ) → f ≡ 0 → answer f l n ≡ Found l n
 unfolding answer

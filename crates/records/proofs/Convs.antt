@@ -5,12 +5,12 @@ use mathlib.Core.Path.{_≡_}
 use native.Mathlib.Omega.{arith}
 use native.Mathlib.Nat.{div-le-self}
 use borrow.Author.Tests.{leb-true}
-use Rattle.records.specs.Shape.{bytesOf, sizeFault, SmallShape, GoodShape}
+use Rattle.fields.specs.Shape.{bytesOf, sizeFault, SmallShape, GoodShape}
 use Rattle.records.specs.Conv.{ConvOk, convFields, convOutput, convShape}
-use Rattle.records.specs.declared.shape.Shape.{Shape}
+use Rattle.fields.specs.declared.shape.Shape.{Shape}
 use Rattle.records.specs.declared.conv.Conv.{Conv}
-use Rattle.records.proofs.Tests.{first-both, cond-none, within-in, clamp-in, padding-in}
-use Rattle.records.proofs.Shapes.{good-shape}
+use Rattle.fields.proofs.Tests.{first-both, cond-none, within-in, clamp-in, padding-in}
+use Rattle.fields.proofs.Shapes.{good-shape}
 
 pub conv-ok : (c : Conv) → convFields c ≡ 0 → ConvOk c
 conv-ok c p =

@@ -4,9 +4,9 @@ use Prim.Native.Nat.{ℕ}
 use mathlib.Core.Path.{_≡_, refl}
 use mathlib.Core.List.{List, [], _∷_, map}
 use lib.ListN.{set}
-use Rattle.records.specs.Bytes.{signed}
-use Rattle.records.specs.Faults.{first, within, biasFault, clampFault, paddingFault}
-use Rattle.records.specs.Stored.{biasFaults}
+use Rattle.fields.specs.Bytes.{signed}
+use Rattle.fields.specs.Faults.{first, within, biasFault, clampFault, paddingFault}
+use Rattle.fields.specs.Stored.{biasFaults}
 use Rattle.records.specs.Conv.{convAt, convFields}
 use Rattle.records.specs.Full.{fullAt, fullFields}
 use Rattle.records.specs.Add.{addAt, addFields}

@@ -3,11 +3,11 @@
 use Prim.Native.Nat.{_≤_}
 use mathlib.Core.Path.{_≡_}
 use native.Mathlib.Omega.{arith}
-use Rattle.records.specs.Shape.{bytesOf, GoodShape}
+use Rattle.fields.specs.Shape.{bytesOf, GoodShape}
 use Rattle.records.specs.Full.{FullOk, fullFields, fullOutput}
 use Rattle.records.specs.declared.full.Full.{Full}
-use Rattle.records.proofs.Tests.{first-both, within-in, clamp-in}
-use Rattle.records.proofs.Shapes.{good-shape}
+use Rattle.fields.proofs.Tests.{first-both, within-in, clamp-in}
+use Rattle.fields.proofs.Shapes.{good-shape}
 
 pub full-ok : (f : Full) → fullFields f ≡ 0 → FullOk f
 full-ok f p =

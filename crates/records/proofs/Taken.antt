@@ -6,18 +6,18 @@ use mathlib.Core.List.{List}
 use native.Mathlib.Omega.{arith}
 use lib.IntN.{natAbs}
 use lib.ListN.{length}
-use Rattle.records.specs.Bytes.{i32At}
-use Rattle.records.specs.Shape.{bytesOf, GoodShape}
-use Rattle.records.specs.Stored.{storedLen}
+use Rattle.fields.specs.Bytes.{i32At}
+use Rattle.fields.specs.Shape.{bytesOf, GoodShape}
+use Rattle.fields.specs.Stored.{storedLen}
 use Rattle.records.specs.Layer.{sumsOf, biasesAt, recordLen}
 use Rattle.records.specs.Conv.{ConvOk, convAt, convOutput, convTerms, convLayer, readConvAs, readConv}
 use Rattle.records.specs.Full.{FullOk, fullAt, fullOutput, fullLayer, readFull}
 use Rattle.records.specs.Add.{AddOk, addAt, addLayer, readAdd}
-use Rattle.records.specs.declared.shape.Shape.{Shape}
+use Rattle.fields.specs.declared.shape.Shape.{Shape}
 use Rattle.records.specs.declared.layer.Layer.{Layer}
-use Rattle.records.proofs.Tests.{first-both}
-use Rattle.records.proofs.Shapes.{size-in}
-use Rattle.records.proofs.Stores.{stored-in}
+use Rattle.fields.proofs.Tests.{first-both}
+use Rattle.fields.proofs.Shapes.{size-in}
+use Rattle.fields.proofs.Stores.{stored-in}
 use Rattle.records.proofs.Answers.{Answered, answer-ok}
 use Rattle.records.proofs.Convs.{conv-ok, conv-fits, conv-good}
 use Rattle.records.proofs.Fulls.{full-ok, full-good}

@@ -4,11 +4,11 @@ use Prim.Native.Nat.{ℕ, _+_, _≤_}
 use mathlib.Core.Bool.{cond}
 use mathlib.Core.List.{List, [], _∷_}
 use lib.Dec.{leb}
-use Rattle.records.specs.Faults.{firstFault, within, multiplierFault, clampFault, spareFault}
-use Rattle.records.specs.Bytes.{byteAt, u32At}
-use Rattle.records.specs.Shape.{sizeFault, sameShape}
+use Rattle.fields.specs.Faults.{firstFault, within, multiplierFault, clampFault, spareFault}
+use Rattle.fields.specs.Bytes.{byteAt, u32At}
+use Rattle.fields.specs.Shape.{sizeFault, sameShape}
 use Rattle.records.specs.Layer.{answer}
-use Rattle.records.specs.declared.shape.Shape.{Shape}
+use Rattle.fields.specs.declared.shape.Shape.{Shape}
 use Rattle.records.specs.declared.add.Add.{Add}
 use Rattle.records.specs.declared.layer.Kind.the-variants.{Addition}
 use Rattle.records.specs.declared.layer.Layer.{Layer}

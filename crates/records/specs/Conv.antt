@@ -4,12 +4,12 @@ use Prim.Native.Nat.{ℕ, _+_, _-_, _*_, _/_, _≤_, _<_}
 use mathlib.Core.Bool.{cond}
 use mathlib.Core.List.{List, [], _∷_}
 use lib.Dec.{leb}
-use Rattle.records.specs.Faults.{firstFault, within, multiplierFault, clampFault, paddingFault}
-use Rattle.records.specs.Bytes.{byteAt, u32At}
-use Rattle.records.specs.Shape.{sizeFault}
-use Rattle.records.specs.Stored.{storedLen, storedFault}
+use Rattle.fields.specs.Faults.{firstFault, within, multiplierFault, clampFault, paddingFault}
+use Rattle.fields.specs.Bytes.{byteAt, u32At}
+use Rattle.fields.specs.Shape.{sizeFault}
+use Rattle.fields.specs.Stored.{storedLen, storedFault}
 use Rattle.records.specs.Layer.{answer}
-use Rattle.records.specs.declared.shape.Shape.{Shape}
+use Rattle.fields.specs.declared.shape.Shape.{Shape}
 use Rattle.records.specs.declared.conv.Conv.{Conv}
 use Rattle.records.specs.declared.layer.Kind.the-variants.{Convolution}
 use Rattle.records.specs.declared.layer.Layer.{Layer}

@@ -2,12 +2,12 @@
 -- Assumes nothing.
 use Prim.Native.Nat.{ℕ, _+_, _≤_}
 use mathlib.Core.List.{List, [], _∷_}
-use Rattle.records.specs.Faults.{firstFault, within, multiplierFault, clampFault, spareFault}
-use Rattle.records.specs.Bytes.{byteAt, u16At, u32At}
-use Rattle.records.specs.Shape.{bytesOf, sizeFault}
-use Rattle.records.specs.Stored.{storedLen, storedFault}
+use Rattle.fields.specs.Faults.{firstFault, within, multiplierFault, clampFault, spareFault}
+use Rattle.fields.specs.Bytes.{byteAt, u16At, u32At}
+use Rattle.fields.specs.Shape.{bytesOf, sizeFault}
+use Rattle.fields.specs.Stored.{storedLen, storedFault}
 use Rattle.records.specs.Layer.{answer}
-use Rattle.records.specs.declared.shape.Shape.{Shape}
+use Rattle.fields.specs.declared.shape.Shape.{Shape}
 use Rattle.records.specs.declared.full.Full.{Full}
 use Rattle.records.specs.declared.layer.Kind.the-variants.{Fully}
 use Rattle.records.specs.declared.layer.Layer.{Layer}

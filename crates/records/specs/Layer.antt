@@ -1,9 +1,9 @@
 -- A decoded layer, and what its record's reader answers.
 -- Assumes nothing.
 use Prim.Native.Nat.{ℕ, zero, suc, _+_, _*_}
-use Rattle.records.specs.Shape.{bytesOf}
-use Rattle.records.specs.Stored.{storedLen}
-use Rattle.records.specs.declared.shape.Shape.{Shape}
+use Rattle.fields.specs.Shape.{bytesOf}
+use Rattle.fields.specs.Stored.{storedLen}
+use Rattle.fields.specs.declared.shape.Shape.{Shape}
 use Rattle.records.specs.declared.layer.Kind.{Kind}
 use Rattle.records.specs.declared.layer.Kind.the-variants.{Convolution, Fully, Addition}
 use Rattle.records.specs.declared.layer.Layer.{Layer}

@@ -2,22 +2,22 @@
 ghost use mathlib.Core.Path.{_≡_};
 ghost use Prim.Native.Nat.{_+_, _≤_};
 ghost use lib.ListN.{length};
-ghost use Rattle.records.specs.Shape.{GoodShape};
+ghost use Rattle.fields.specs.Shape.{GoodShape};
 ghost use Rattle.records.specs.Add.{addWith, addFields, addShape, readAdd};
-use crate::bytes::u32_at;
-use crate::faults::clamp_fault;
-use crate::faults::first_of;
-use crate::faults::multiplier_fault;
-use crate::faults::shift_fault;
-use crate::faults::spare_fault;
 use crate::layer::Kind;
 use crate::layer::Layer;
 use crate::layer::Read;
 use crate::layer::Scale;
 use crate::layer::answer_of;
-use crate::shape::Shape;
-use crate::shape::same_shape;
-use crate::shape::size_fault;
+use fields::bytes::u32_at;
+use fields::faults::clamp_fault;
+use fields::faults::first_of;
+use fields::faults::multiplier_fault;
+use fields::faults::shift_fault;
+use fields::faults::spare_fault;
+use fields::shape::Shape;
+use fields::shape::same_shape;
+use fields::shape::size_fault;
 
 // `first` rescales tensor k − 1, `second` tensor `other`, and `third` their sum.
 pub struct Add {

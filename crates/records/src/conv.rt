@@ -2,26 +2,26 @@
 ghost use mathlib.Core.Path.{_≡_};
 ghost use Prim.Native.Nat.{_+_, _*_, _≤_};
 ghost use lib.ListN.{length};
-ghost use Rattle.records.specs.Shape.{GoodShape};
+ghost use Rattle.fields.specs.Shape.{GoodShape};
 ghost use Rattle.records.specs.Conv.{convWith, convFields, convOutput, convShape, convTerms, readConvAs, readConv, ConvOk};
-use crate::bytes::u32_at;
-use crate::faults::clamp_fault;
-use crate::faults::filters_fault;
-use crate::faults::first_of;
-use crate::faults::kernel_fault;
-use crate::faults::multiplier_fault;
-use crate::faults::padding_fault;
-use crate::faults::shift_fault;
-use crate::faults::stride_fault;
 use crate::layer::Kind;
 use crate::layer::Layer;
 use crate::layer::Read;
 use crate::layer::Scale;
 use crate::layer::answer_of;
-use crate::shape::Shape;
-use crate::shape::size_fault;
-use crate::stored::stored_fault;
-use crate::stored::stored_len;
+use fields::bytes::u32_at;
+use fields::faults::clamp_fault;
+use fields::faults::filters_fault;
+use fields::faults::first_of;
+use fields::faults::kernel_fault;
+use fields::faults::multiplier_fault;
+use fields::faults::padding_fault;
+use fields::faults::shift_fault;
+use fields::faults::stride_fault;
+use fields::shape::Shape;
+use fields::shape::size_fault;
+use fields::stored::stored_fault;
+use fields::stored::stored_len;
 
 // Kernel rows are `height` and kernel columns `width`; v is the weight zero-point and zero the output's.
 pub struct Conv {

@@ -2,26 +2,26 @@
 ghost use mathlib.Core.Path.{_≡_};
 ghost use Prim.Native.Nat.{_+_, _≤_};
 ghost use lib.ListN.{length};
-ghost use Rattle.records.specs.Shape.{GoodShape, SmallShape};
+ghost use Rattle.fields.specs.Shape.{GoodShape, SmallShape};
 ghost use Rattle.records.specs.Full.{fullWith, fullFields, fullOutput, readFull};
-use crate::bytes::u16_at;
-use crate::bytes::u32_at;
-use crate::faults::clamp_fault;
-use crate::faults::first_of;
-use crate::faults::multiplier_fault;
-use crate::faults::outputs_fault;
-use crate::faults::shift_fault;
-use crate::faults::spare_fault;
 use crate::layer::Kind;
 use crate::layer::Layer;
 use crate::layer::Read;
 use crate::layer::Scale;
 use crate::layer::answer_of;
-use crate::shape::Shape;
-use crate::shape::bytes_of;
-use crate::shape::size_fault;
-use crate::stored::stored_fault;
-use crate::stored::stored_len;
+use fields::bytes::u16_at;
+use fields::bytes::u32_at;
+use fields::faults::clamp_fault;
+use fields::faults::first_of;
+use fields::faults::multiplier_fault;
+use fields::faults::outputs_fault;
+use fields::faults::shift_fault;
+use fields::faults::spare_fault;
+use fields::shape::Shape;
+use fields::shape::bytes_of;
+use fields::shape::size_fault;
+use fields::stored::stored_fault;
+use fields::stored::stored_len;
 
 // v is the weight zero-point and zero the output's.
 pub struct Full {

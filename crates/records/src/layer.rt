@@ -1,12 +1,12 @@
 // A decoded layer: its shapes, its kind with the parameters, and where its parts stand.
 ghost use mathlib.Core.Path.{_≡_};
-ghost use Rattle.records.specs.Shape.{GoodShape};
+ghost use Rattle.fields.specs.Shape.{GoodShape};
 ghost use Rattle.records.specs.Layer.{answer, sumsOf, termsOf};
 use crate::add::Add;
 use crate::conv::Conv;
 use crate::full::Full;
-use crate::shape::Shape;
-use crate::shape::bytes_of;
+use fields::shape::Shape;
+use fields::shape::bytes_of;
 
 // A multiplier and a shift, by which a total is rescaled.
 pub struct Scale {

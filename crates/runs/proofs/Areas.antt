@@ -7,8 +7,8 @@ use native.Mathlib.Nat.{mul-le-mul-right, zero-add}
 use native.Mathlib.Omega.{arith}
 use lib.ListN.{length, take, drop, length-take, take-append-drop}
 use lib.Seq.{drop-append-le, take-take}
-use Rattle.records.specs.Shape.{bytesOf, rowBytes}
-use Rattle.records.specs.declared.shape.Shape.{Shape}
+use Rattle.fields.specs.Shape.{bytesOf, rowBytes}
+use Rattle.fields.specs.declared.shape.Shape.{Shape}
 use Rattle.network.specs.Network.{layerOf, tensorOf, placeOf, zeroOf}
 use Rattle.network.specs.Taken.{Taken}
 use Rattle.network.specs.declared.net.Network.{Network}

@@ -6,8 +6,8 @@ use mathlib.Core.List.{List}
 use native.Mathlib.Nat.{mul-le-mul-right}
 use native.Mathlib.Omega.{arith}
 use native.Mathlib.Decide.{decLe, decLt}
-use Rattle.records.specs.Shape.{bytesOf, rowBytes}
-use Rattle.records.specs.declared.shape.Shape.{Shape}
+use Rattle.fields.specs.Shape.{bytesOf, rowBytes}
+use Rattle.fields.specs.declared.shape.Shape.{Shape}
 use Rattle.network.specs.Network.{tensorOf, placeOf}
 use Rattle.network.specs.Taken.{Taken}
 use Rattle.network.specs.declared.net.Network.{Network}

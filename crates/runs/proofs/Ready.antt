@@ -6,11 +6,11 @@ use mathlib.Core.List.{List}
 use native.Mathlib.Omega.{arith}
 use lib.IntN.{natAbs}
 use lib.ListN.{length, getD}
-use Rattle.records.specs.Bytes.{i32At}
-use Rattle.records.specs.Shape.{bytesOf}
-use Rattle.records.specs.Stored.{storedLen}
+use Rattle.fields.specs.Bytes.{i32At}
+use Rattle.fields.specs.Shape.{bytesOf}
+use Rattle.fields.specs.Stored.{storedLen}
 use Rattle.records.specs.Layer.{sumsOf, termsOf, fixedOf}
-use Rattle.records.specs.declared.shape.Shape.{Shape}
+use Rattle.fields.specs.declared.shape.Shape.{Shape}
 use Rattle.records.specs.declared.layer.Kind.{Kind}
 use Rattle.records.specs.declared.layer.Kind.the-variants.{Convolution, Fully, Addition}
 use Rattle.records.specs.declared.layer.Layer.{Layer}

@@ -7,7 +7,7 @@ use native.Mathlib.Nat.{mul-le-mul-right}
 use native.Mathlib.Numerals.{add-one}
 use native.Mathlib.Omega.{arith}
 use lib.ListN.{length, take, drop, length-take}
-use Rattle.records.specs.Shape.{bytesOf, rowBytes}
+use Rattle.fields.specs.Shape.{bytesOf, rowBytes}
 use Rattle.records.specs.declared.layer.Layer.{Layer}
 use Rattle.network.specs.Network.{layerOf, tensorOf, placeOf, zeroOf}
 use Rattle.network.specs.declared.net.Network.{Network}

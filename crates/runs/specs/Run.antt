@@ -10,7 +10,7 @@ use Rattle.network.specs.Network.{layerOf, tensorOf, placeOf, zeroOf}
 use Rattle.network.specs.Taken.{Taken}
 use Rattle.network.specs.declared.net.Network.{Network}
 use Rattle.windows.specs.Lists.{pasted, joined}
-use Rattle.records.specs.Shape.{rowBytes}
+use Rattle.fields.specs.Shape.{rowBytes}
 use Rattle.layers.specs.Row.{rowOf, tensorAt}
 use Rattle.layers.specs.Sums.{layerSums}
 use Rattle.bands.specs.Band.{inBand}

@@ -3,7 +3,7 @@ ghost use mathlib.Core.Path.{_≡_};
 ghost use Prim.Native.Nat.{suc, _≤_, _<_};
 ghost use lib.ListN.{length};
 ghost use Rattle.network.specs.Network.{tensorOf};
-ghost use Rattle.records.specs.Shape.{rowBytes};
+ghost use Rattle.fields.specs.Shape.{rowBytes};
 ghost use Rattle.bands.specs.State.{bandOf};
 ghost use Rattle.bands.specs.Grow.{growOne, grown};
 ghost use Rattle.checks.specs.Tensors.{linkOf};

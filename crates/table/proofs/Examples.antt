@@ -5,11 +5,11 @@ use mathlib.Core.List.{List, [], _∷_}
 use Prim.Native.Nat.{ℕ, _<_}
 use borrow.Author.Tests.{lt-leb}
 use lib.ListN.{length, take}
-use Rattle.records.specs.Faults.{first, within, spareFault, cutFault, clampFault, paddingFault, biasFault}
-use Rattle.records.specs.Bytes.{signed}
+use Rattle.fields.specs.Faults.{first, within, spareFault, cutFault, clampFault, paddingFault, biasFault}
+use Rattle.fields.specs.Bytes.{signed}
 use Rattle.records.specs.Mark.{isMark, markAt}
-use Rattle.records.specs.Shape.{bytesOf, sizeFault}
-use Rattle.records.specs.Stored.{biasFaults, storedLen, storedFault}
+use Rattle.fields.specs.Shape.{bytesOf, sizeFault}
+use Rattle.fields.specs.Stored.{biasFaults, storedLen, storedFault}
 use Rattle.records.specs.Layer.{answer}
 use Rattle.records.specs.Conv.{convOutput, convShape, convTerms, readConvAs}
 use Rattle.windows.specs.Lists.{joined}

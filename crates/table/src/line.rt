@@ -2,7 +2,7 @@
 ghost use mathlib.Core.Path.{_≡_};
 ghost use Prim.Native.Nat.{_+_, _≤_, _<_};
 ghost use lib.ListN.{length};
-ghost use Rattle.records.specs.Shape.{GoodShape};
+ghost use Rattle.fields.specs.Shape.{GoodShape};
 ghost use Rattle.records.specs.Layer.{sumsOf};
 ghost use Rattle.network.specs.Taken.{Taken};
 ghost use Rattle.windows.specs.Lists.{pasted};
@@ -10,13 +10,13 @@ ghost use Rattle.table.specs.Listing.{lineOf, wordOf, tableOf, listingOf
 use crate::text::put_column;
 use crate::text::put_number;
 use crate::text::put_word;
+use fields::shape::Shape;
+use fields::shape::bytes_of;
 use network::file::decode;
 use network::net::Network;
 use network::net::layer;
 use records::layer::Kind;
 use records::layer::sums_of;
-use records::shape::Shape;
-use records::shape::bytes_of;
 
 // The line of a tensor.
 fn put_line(out: &mut [u8], at: usize, t: usize, word: &[u8], s: Shape, sums: usize) -> usize

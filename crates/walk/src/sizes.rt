@@ -1,8 +1,8 @@
 // How many bytes a network works with.
 ghost use Rattle.io.specs.Counts.{Counts};
+use fields::shape::bytes_of;
 use network::file::decode;
 use network::net::tensor;
-use records::shape::bytes_of;
 
 // The bytes that the layers make, those of the last tensor, and those of one of its rows.
 pub struct Sizes {

@@ -6,7 +6,7 @@ use mathlib.Core.List.{List}
 use native.Mathlib.Omega.{arith}
 use lib.ListN.{length-replicate}
 use borrow.Author.Needs.{needs}
-use Rattle.records.specs.declared.shape.Shape.{Shape}
+use Rattle.fields.specs.declared.shape.Shape.{Shape}
 use Rattle.network.specs.Network.{tensorOf}
 use Rattle.checks.proofs.Numbers.{Told, told-more, told-all}
 use Rattle.checks.proofs.tensors.tensors_of.Statement.{statement}

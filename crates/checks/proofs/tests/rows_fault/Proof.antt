@@ -2,9 +2,9 @@
 use Prim.Native.Nat.{_+_, _≤_, _<_}
 use native.Mathlib.Omega.{arith}
 use borrow.Author.Tests.{le-leb, lt-leb, eq-eqb, ne-eqb}
-use Rattle.records.specs.Shape.{rowBytes, GoodShape}
-use Rattle.records.specs.declared.shape.Shape.{Shape}
-use Rattle.records.proofs.Shapes.{mul-most}
+use Rattle.fields.specs.Shape.{rowBytes, GoodShape}
+use Rattle.fields.specs.declared.shape.Shape.{Shape}
+use Rattle.fields.proofs.Shapes.{mul-most}
 use Rattle.checks.specs.Tests.{rowsFault}
 use Rattle.checks.proofs.tests.rows_fault.Statement.{statement}
 use Rattle.checks.proofs.tests.rows_fault.Tie as tie

@@ -3,7 +3,7 @@ use mathlib.Core.Path.{_≡_, _∙_, ap}
 use native.Mathlib.Omega.{arith}
 use borrow.Author.Needs.{needs}
 use borrow.Author.Tests.{eq-eqb, ne-eqb}
-use Rattle.records.specs.Shape.{bytesOf}
+use Rattle.fields.specs.Shape.{bytesOf}
 use Rattle.network.specs.Network.{tensorOf}
 use Rattle.checks.specs.Tests.{sliceFault}
 use Rattle.checks.proofs.tests.slice_fault.Statement.{statement}

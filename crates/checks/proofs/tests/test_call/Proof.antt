@@ -1,7 +1,7 @@
 -- `checks::tests::test_call` meets its contract: a load's fault decides first. Assumes nothing.
 use mathlib.Core.Path.{sym, _∙_}
 use borrow.Author.Needs.{needs}
-use Rattle.records.proofs.Tests.{met, passed}
+use Rattle.fields.proofs.Tests.{met, passed}
 use Rattle.checks.proofs.Passed.{load-passed, call-is}
 use Rattle.checks.proofs.Rows.{decoded-rows}
 use Rattle.checks.proofs.tests.test_call.Statement.{statement}

@@ -4,7 +4,7 @@ use mathlib.Core.Path.{refl}
 use native.Mathlib.Omega.{arith}
 use denote.Ref.{now}
 use lib.ListN.{length}
-use Rattle.records.proofs.Tests.{met, passed}
+use Rattle.fields.proofs.Tests.{met, passed}
 use Rattle.clew.proofs.Answers.{both, change-refused, change-done}
 use Rattle.clew.proofs.Entered.{Entered, entered}
 use Rattle.clew.proofs.Rooms.{RowsFit, rows-fit}

@@ -6,8 +6,8 @@ use native.Mathlib.Nat.{le-refl}
 use native.Mathlib.Omega.{arith}
 use denote.Ref.{now}
 use lib.ListN.{length}
-use Rattle.records.proofs.Tests.{met, passed, first-both}
-use Rattle.records.specs.Faults.{first}
+use Rattle.fields.proofs.Tests.{met, passed, first-both}
+use Rattle.fields.specs.Faults.{first}
 use Rattle.checks.specs.Tests.{sliceFault, staleFault}
 use Rattle.checks.proofs.Passed.{slice-passed}
 use Rattle.clew.proofs.Answers.{both, read-refused, read-done, slice-read}

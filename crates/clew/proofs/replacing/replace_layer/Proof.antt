@@ -5,7 +5,7 @@ use native.Mathlib.Omega.{arith}
 use mathlib.Core.Path.{_≡_, refl}
 use denote.Ref.{now}
 use lib.ListN.{length}
-use Rattle.records.proofs.Tests.{met, passed}
+use Rattle.fields.proofs.Tests.{met, passed}
 use Rattle.windows.specs.Lists.{pasted}
 use Rattle.layers.specs.Sums.{layerSums}
 use Rattle.bands.specs.State.{replaced}

@@ -6,7 +6,7 @@ use Prim.Native.Nat.{ℕ, _+_, _-_, _≤_}
 use native.Mathlib.Omega.{arith}
 use denote.Ref.{now}
 use lib.ListN.{getD}
-use Rattle.records.specs.Shape.{bytesOf, GoodShape, rowBytes}
+use Rattle.fields.specs.Shape.{bytesOf, GoodShape, rowBytes}
 use Rattle.layers.specs.Add.{addByte}
 use Rattle.layers.proofs.Laid.{Laid, laid-none, laid-store, laid-done, laid-at}
 use Rattle.layers.proofs.Rows.{row-in, row-skip, add-done}

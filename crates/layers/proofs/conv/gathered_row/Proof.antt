@@ -5,7 +5,7 @@ use Prim.Native.Nat.{ℕ, _+_, _*_, _-_, _≤_}
 use native.Mathlib.Omega.{arith}
 use denote.Ref.{now}
 use lib.ListN.{length}
-use Rattle.records.specs.Shape.{bytesOf, rowBytes}
+use Rattle.fields.specs.Shape.{bytesOf, rowBytes}
 use Rattle.windows.specs.Lists.{part}
 use Rattle.windows.specs.Window.{sizeOf, windowOf}
 use Rattle.layers.specs.Outputs.{outputsOf}

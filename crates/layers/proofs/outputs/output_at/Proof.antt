@@ -10,7 +10,7 @@ use lib.ListN.{length}
 use mir.Syntax.{w32}
 use mir.Val.{toZ, ofZ}
 use mir.ValLaws.{toZ-ofZ}
-use Rattle.records.specs.Bytes.{signed, i32At}
+use Rattle.fields.specs.Bytes.{signed, i32At}
 use Rattle.layers.proofs.Laid.{room, cut-is, cut-length}
 use Rattle.layers.proofs.Totals.{output-is}
 use Rattle.layers.proofs.outputs.output_at.Statement.{statement}

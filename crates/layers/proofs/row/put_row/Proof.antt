@@ -5,7 +5,7 @@ use mathlib.Core.List.{List}
 use Prim.Native.Nat.{ℕ, _+_, _*_}
 use borrow.Author.Needs.{needs}
 use denote.Ref.{now}
-use Rattle.records.specs.Shape.{rowBytes}
+use Rattle.fields.specs.Shape.{rowBytes}
 use Rattle.records.specs.declared.layer.Kind.the-variants.{Convolution, Fully, Addition}
 use Rattle.windows.specs.Lists.{pasted}
 use Rattle.layers.specs.Row.{tensorAt}

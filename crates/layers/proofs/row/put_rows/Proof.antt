@@ -5,7 +5,7 @@ use Prim.Native.Nat.{_+_, _*_, _-_, _≤_}
 use native.Mathlib.Omega.{arith}
 use denote.Ref.{now}
 use lib.ListN.{length}
-use Rattle.records.specs.Shape.{rowBytes}
+use Rattle.fields.specs.Shape.{rowBytes}
 use Rattle.layers.proofs.Laid.{Laid, laid-none, laid-done}
 use Rattle.layers.proofs.Rows.{rowFrom, rows-turn}
 use Rattle.layers.proofs.row.put_rows.Statement.{statement}

@@ -6,7 +6,7 @@ use lib.ListN.{length}
 use mathlib.Core.Path.{sym, _∙_}
 use native.Mathlib.Omega.{arith}
 use Rattle.network.specs.Head.{headFault}
-use Rattle.records.proofs.Tests.{met, passed, cut-there}
+use Rattle.fields.proofs.Tests.{met, passed, cut-there}
 use borrow.Author.Needs.{needs}
 use Rattle.network.proofs.head.head_fault.Statement.{statement}
 use Rattle.network.proofs.head.head_fault.Tie as tie

@@ -3,7 +3,7 @@
 use Prim.Native.Nat.{_*_, _≤_}
 use native.Mathlib.Omega.{arith}
 use Rattle.records.specs.Conv.{convTerms}
-use Rattle.records.proofs.Shapes.{mul-most}
+use Rattle.fields.proofs.Shapes.{mul-most}
 use borrow.Author.Needs.{needs}
 use Rattle.records.proofs.conv.conv_terms.Statement.{statement}
 use Rattle.records.proofs.conv.conv_terms.Tie as tie

@@ -3,12 +3,12 @@
 use Prim.Native.Nat.{_*_}
 use native.Mathlib.Omega.{arith}
 use borrow.Author.Needs.{needs}
-use Rattle.records.proofs.Shapes.{mul-most}
+use Rattle.fields.proofs.Shapes.{mul-most}
 use Rattle.records.proofs.layer.terms_of.Statement.{statement}
 use Rattle.records.proofs.layer.terms_of.Tie as tie
 use Rattle.records.proofs.layer.terms_of.Reads as reads
 use Rattle.records.proofs.layer.terms_of.Lts as lts
-use Rattle.records.proofs.shape.bytes_of.Reads as bytes-of-reads
+use Rattle.fields.proofs.shape.bytes_of.Reads as bytes-of-reads
 
 -- src/layer.rt:67:27
 enum-known-kind : tie.Need-enum-known-kind

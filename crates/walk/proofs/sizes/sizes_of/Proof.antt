@@ -6,8 +6,8 @@ use mathlib.Core.List.{List}
 use native.Mathlib.Omega.{arith}
 use native.Mathlib.Nat.{mul-le-mul-right}
 use borrow.Author.Needs.{needs}
-use Rattle.records.specs.Shape.{SmallShape, GoodShape}
-use Rattle.records.specs.declared.shape.Shape.{Shape}
+use Rattle.fields.specs.Shape.{SmallShape, GoodShape}
+use Rattle.fields.specs.declared.shape.Shape.{Shape}
 use Rattle.network.specs.Network.{tensorOf}
 use Rattle.network.specs.Decode.{decodeOf}
 use Rattle.network.specs.Taken.{Taken}

@@ -1,0 +1,42 @@
+// Shapes and sizes of tensors.
+ghost use mathlib.Core.Path.{_≡_};
+ghost use Prim.Native.Nat.{_≤_};
+ghost use Rattle.fields.specs.Shape.{bytesOf, sizeFault, sameShape, SmallShape};
+
+pub struct Shape {
+    pub rows: usize,
+    pub columns: usize,
+    pub channels: usize,
+}
+
+pub fn bytes_of(s: Shape) -> usize
+    requires { ⌜ SmallShape s ⌝ }
+    ensures { λ r. ⌜ r ≡ bytesOf s ⌝ }
+{
+    s.rows * s.columns * s.channels
+}
+
+// One tensor has at most 16,384 bytes, all tensors together at most 65,536: total is the bytes of those before.
+pub fn size_fault(s: Shape, total: usize) -> u8
+    requires { ⌜ SmallShape s ⌝ }
+    requires { ⌜ total ≤ 65536 ⌝ }
+    ensures { λ r. ⌜ r ≡ sizeFault s total ⌝ }
+{
+    let n = bytes_of(s);
+    if n <= 16384 {
+        if total + n <= 65536 { 0 } else { 3 }
+    } else {
+        3
+    }
+}
+
+pub fn same_shape(a: Shape, b: Shape) -> bool
+    ensures { λ r. ⌜ r ≡ sameShape a b ⌝ }
+{
+    if a.rows == b.rows {
+        if a.columns == b.columns {
+            return a.channels == b.channels;
+        }
+    }
+    false
+}
