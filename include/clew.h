@@ -49,7 +49,8 @@ uint8_t clew_replace_layer(uint8_t *net, size_t net_len, uint32_t *sums, size_t 
                            size_t area_len, uint16_t state[34], size_t layer, const uint8_t *record,
                            size_t record_len);
 
-/* Recomputes what the stale rows reach, and nothing else; *count is the number of bytes recomputed. */
+/* Recomputes what the stale rows reach, and nothing else; *count is the number of bytes recomputed, 0 where it
+ * refuses. */
 uint8_t clew_update(const uint8_t *net, size_t net_len, const uint32_t *sums, size_t sums_len, uint8_t *area,
                     size_t area_len, uint16_t state[34], uint32_t *count);
 

@@ -53,7 +53,9 @@ static void call(struct head *h, void *const b[], unsigned written)
     if (!get(from, h, sizeof *h))
         fail("no answer");
     for (int i = 0; i < BUFFERS; i++) {
-        char *got = malloc(h->bytes[i] + 1);
+        if (h->bytes[i] == 0)
+            continue;
+        char *got = malloc(h->bytes[i]);
         if (got == NULL || !get(from, got, h->bytes[i]))
             fail("no answer");
         if (written & 1u << i)
