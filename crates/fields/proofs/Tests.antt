@@ -2,7 +2,7 @@
 -- Assumes nothing.
 use Prim.Native.Nat.{ℕ, zero, suc, _+_, _-_, _≤_, _<_}
 use mathlib.Core.Path.{_≡_, refl, sym, _∙_, ap}
-use mathlib.Core.Bool.{Bool, true, false, cond}
+use mathlib.Core.Bool.{Bool, true, false, cond, _&&_}
 use mathlib.Core.List.{List}
 use native.Mathlib.Omega.{arith}
 use borrow.Author.Tests.{le-leb, lt-leb, leb-true, ltb-true, eqb-true}
@@ -55,6 +55,12 @@ met r a b e p = sym (first-some r b p) ∙ ap (λ (x : ℕ). first x b) e
 pub passed : (r a b x : ℕ) → r ≡ a → r ≡ 0 → x ≡ b → x ≡ first a b
 passed r a b x e p h = h ∙ sym (first-none a b (sym e ∙ p))
 
+-- two tests that both hold
+pub and-both : (a b : Bool) → a && b ≡ true → (a ≡ true) × (b ≡ true)
+and-both true b e = (refl, e)
+and-both false true e = (e, refl)
+and-both false false e = (e, e)
+
 -- a test that left no fault
 pub cond-none : (t : Bool) (a n : ℕ) → cond t a (suc n) ≡ 0 → (t ≡ true) × (a ≡ 0)
 cond-none true a n p = (refl, p)
@@ -88,3 +94,7 @@ unfolding cutFault
 cut-there s at n a p =
     let q : n ≤ length s - at = leb-true n (length s - at) (unless-none (leb n (length s - at)) 0 p) in
     omega arith
+
+pub there-cut : (s : List ℕ) (at n : ℕ) → at + n ≤ length s → cutFault s at n ≡ 0
+unfolding cutFault
+there-cut s at n h = simp (le-leb n (length s - at) (omega arith))

@@ -26,6 +26,10 @@ firstFault (x ∷ y ∷ ys) = first x (firstFault (y ∷ ys))
 unfoldable pub within : ℕ → ℕ → ℕ → ℕ
 within low high x = cond (leb low x) (unless (leb x high) 2) 2
 
+-- a shift is 0 to 31
+abbrev pub shiftFault : ℕ → ℕ
+shiftFault n = within 0 31 n
+
 -- multipliers are 2^30 to 2^31 − 1
 abbrev pub multiplierFault : ℕ → ℕ
 multiplierFault m = within 1073741824 2147483647 m

@@ -3,7 +3,7 @@ ghost use mathlib.Core.Path.{_≡_};
 ghost use Prim.Native.Nat.{_≤_};
 ghost use lib.ListN.{length};
 ghost use Rattle.fields.specs.Bytes.{signed};
-ghost use Rattle.fields.specs.Faults.{first, within, biasFault, clampFault, paddingFault, spareFault, cutFault};
+ghost use Rattle.fields.specs.Faults.{first, within, shiftFault, multiplierFault, biasFault, clampFault, paddingFault, spareFault, cutFault};
 
 // The first of two.
 pub fn first_of(a: u8, b: u8) -> u8
@@ -31,7 +31,8 @@ pub fn spare_fault(x: u8) -> u8
     }
 }
 
-pub fn filters_fault(x: u8) -> u8
+// Filters, channels.
+pub fn one_to_64(x: u8) -> u8
     ensures { λ r. ⌜ r ≡ within 1 64 x ⌝ }
 {
     match x {
@@ -40,7 +41,8 @@ pub fn filters_fault(x: u8) -> u8
     }
 }
 
-pub fn outputs_fault(x: u16) -> u8
+// Outputs, rows, columns.
+pub fn one_to_256(x: u16) -> u8
     ensures { λ r. ⌜ r ≡ within 1 256 x ⌝ }
 {
     match x {
@@ -77,7 +79,7 @@ pub fn stride_fault(x: u8) -> u8
 }
 
 pub fn shift_fault(x: u8) -> u8
-    ensures { λ r. ⌜ r ≡ within 0 31 x ⌝ }
+    ensures { λ r. ⌜ r ≡ shiftFault x ⌝ }
 {
     match x {
         0..=31 => 0,
@@ -86,7 +88,7 @@ pub fn shift_fault(x: u8) -> u8
 }
 
 pub fn multiplier_fault(x: u32) -> u8
-    ensures { λ r. ⌜ r ≡ within 1073741824 2147483647 x ⌝ }
+    ensures { λ r. ⌜ r ≡ multiplierFault x ⌝ }
 {
     match x {
         1073741824..=2147483647 => 0,

@@ -26,8 +26,8 @@ pub fn bias_faults(s: &[u8], from: usize, count: usize) -> u8
 
 // How many bytes the biases and the weights of n outputs take, w weights each.
 pub fn stored_len(n: usize, w: usize) -> usize
-    requires { ⌜ (n ≤ 65535) × (w ≤ 1000000) ⌝ }
-    ensures { λ r. ⌜ (r ≡ storedLen n w) × (r ≤ 70000000000) ⌝ }
+    requires { ⌜ (n ≤ 65535) × (w ≤ 16777216) ⌝ }
+    ensures { λ r. ⌜ (r ≡ storedLen n w) × (r ≤ 2000000000000) ⌝ }
 {
     4 * n + n * w
 }
@@ -35,7 +35,7 @@ pub fn stored_len(n: usize, w: usize) -> usize
 // They are there, and then each bias is in its range.
 pub fn stored_fault(s: &[u8], at: usize, n: usize, w: usize) -> u8
     requires { ⌜ at ≤ length (now s) ⌝ }
-    requires { ⌜ (n ≤ 65535) × (w ≤ 1000000) ⌝ }
+    requires { ⌜ (n ≤ 65535) × (w ≤ 16777216) ⌝ }
     ensures { λ r. ⌜ r ≡ storedFault (now (s .entry)) at n w ⌝ }
 {
     let cut = cut_fault(s, at, stored_len(n, w));

@@ -5,11 +5,10 @@ use mathlib.Core.Path.{_≡_, refl}
 use mathlib.Core.List.{List, [], _∷_, map}
 use lib.ListN.{set}
 use Rattle.fields.specs.Bytes.{signed}
-use Rattle.fields.specs.Faults.{first, within, biasFault, clampFault, paddingFault}
+use Rattle.fields.specs.Faults.{first, within, biasFault, clampFault, paddingFault, spareFault}
 use Rattle.fields.specs.Stored.{biasFaults}
-use Rattle.records.specs.Conv.{convAt, convFields}
-use Rattle.records.specs.Full.{fullAt, fullFields}
-use Rattle.records.specs.Add.{addAt, addFields}
+use Rattle.records.specs.Reader.{ownFault}
+use Rattle.records.specs.declared.mark.Mark.the-variants.{CV, FU, AD}
 
 -- three fixed parts with every field in its range; the convolution's kernel is 3 × 3, its padding 1
 abbrev conv : List ℕ
@@ -64,7 +63,9 @@ fulls =
     (set (set full 6 1) 7 0, 2) ∷
     (set full 8 31, 0) ∷
     (set full 8 32, 2) ∷
-    (set full 13 0x80, 2) ∷ []
+    (set full 13 0x80, 2) ∷
+    -- the spare before a field
+    (set (set full 9 1) 2 0, 1) ∷ []
 
 abbrev pub adds : List (List ℕ × ℕ)
 adds =
@@ -76,7 +77,9 @@ adds =
     (set add 18 32, 2) ∷
     (set add 19 32, 2) ∷
     (set add 20 32, 2) ∷
-    (set (set (set add 18 31) 19 31) 20 31, 0) ∷ []
+    (set (set (set add 18 31) 19 31) 20 31, 0) ∷
+    -- the spare before a field
+    (set (set add 21 1) 9 0, 1) ∷ []
 
 -- 2^30, 2^30 + 1, −2^30, −2^30 − 1
 abbrev pub biases : List (List ℕ × ℕ)
@@ -87,9 +90,9 @@ biases =
     (0xFF ∷ 0xFF ∷ 0xFF ∷ 0xBF ∷ [], 2) ∷ []
 
 pub ranges :
-    (map (λ c. convFields (convAt (c .0) 0)) convs ≡ map (λ c. c .1) convs) ×
-    (map (λ c. fullFields (fullAt (c .0) 0)) fulls ≡ map (λ c. c .1) fulls) ×
-    (map (λ c. addFields (addAt (c .0) 0)) adds ≡ map (λ c. c .1) adds) ×
+    (map (λ c. ownFault CV (c .0) 0) convs ≡ map (λ c. c .1) convs) ×
+    (map (λ c. ownFault FU (c .0) 0) fulls ≡ map (λ c. c .1) fulls) ×
+    (map (λ c. ownFault AD (c .0) 0) adds ≡ map (λ c. c .1) adds) ×
     (map (λ c. biasFaults (c .0) 0 1) biases ≡ map (λ c. c .1) biases)
-unfolding signed first within biasFault clampFault paddingFault biasFaults
+unfolding signed first within biasFault clampFault paddingFault spareFault biasFaults ownFault
 ranges = (refl, refl, refl, refl)

@@ -1,7 +1,5 @@
 -- Laws that belong to no one function, and the examples.
-pub mod Adds
+pub mod Frames
+pub mod Ranges
 pub mod Answers
-pub mod Convs
 pub mod Examples
-pub mod Fulls
-pub mod Taken

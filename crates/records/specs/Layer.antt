@@ -1,19 +1,17 @@
--- A decoded layer, and what its record's reader answers.
+-- A decoded layer: what it has by its kind, and where the parts of its record stand.
 -- Assumes nothing.
-use Prim.Native.Nat.{ℕ, zero, suc, _+_, _*_}
+use Prim.Native.Nat.{ℕ, _+_, _*_}
 use Rattle.fields.specs.Shape.{bytesOf}
 use Rattle.fields.specs.Stored.{storedLen}
 use Rattle.fields.specs.declared.shape.Shape.{Shape}
+use Rattle.records.specs.Mark.{fixedLen}
+use Rattle.records.specs.Frame.{frameOutput}
+use Rattle.records.specs.Conv.{ConvOk}
+use Rattle.records.specs.Full.{fullOutput, FullOk}
+use Rattle.records.specs.Add.{AddOk}
 use Rattle.records.specs.declared.layer.Kind.{Kind}
 use Rattle.records.specs.declared.layer.Kind.the-variants.{Convolution, Fully, Addition}
 use Rattle.records.specs.declared.layer.Layer.{Layer}
-use Rattle.records.specs.declared.layer.Read.{Read}
-use Rattle.records.specs.declared.layer.Read.the-variants.{Refused, Found}
-
--- the layer and where the next record begins, unless there is a fault
-unfoldable pub answer : ℕ → Layer → ℕ → Read
-answer zero layer next = Found layer next
-answer (suc fault) layer next = Refused (suc fault)
 
 -- how many stored sums a layer has: one per filter or output
 abbrev pub sumsOf : Kind → ℕ
@@ -23,23 +21,35 @@ sumsOf (Addition a) = 0
 
 -- N: the terms of each output, of a layer with that input
 abbrev pub termsOf : Kind → Shape → ℕ
-termsOf (Convolution c) i = c .height * c .width * i .channels
+termsOf (Convolution c) i = c .frame .height * c .frame .width * i .channels
 termsOf (Fully f) i = bytesOf i
 termsOf (Addition a) i = 0
 
--- the bytes of the record before its biases
-abbrev pub fixedOf : Kind → ℕ
-fixedOf (Convolution c) = 16
-fixedOf (Fully f) = 14
-fixedOf (Addition a) = 22
+-- the shape of what a layer makes of an input: a convolution makes a channel per filter
+abbrev pub outputShape : Kind → Shape → Shape
+outputShape (Convolution c) i = frameOutput (c .frame) i (c .filters)
+outputShape (Fully f) i = fullOutput f
+outputShape (Addition a) i = i
 
--- where in the file the layer's biases begin, and its weights, and the next record
+-- the other tensor that a layer reads: an add's j, and tensor m itself where the layer after tensor m reads no other
+abbrev pub otherOf : Kind → ℕ → ℕ
+otherOf (Convolution c) m = m
+otherOf (Fully f) m = m
+otherOf (Addition a) m = a .other
+
+-- parameters in their ranges
+abbrev pub KindOk : Kind → Type 0
+KindOk (Convolution c) = ConvOk c
+KindOk (Fully f) = FullOk f
+KindOk (Addition a) = AddOk a
+
+-- where in the file the layer's biases begin, and its weights
 abbrev pub biasesAt : Layer → ℕ
-biasesAt y = y .start + fixedOf (y .kind)
+biasesAt y = y .start + fixedLen (y .mark)
 
 abbrev pub weightsAt : Layer → ℕ
 weightsAt y = biasesAt y + 4 * sumsOf (y .kind)
 
 -- the bytes of the whole record
 abbrev pub recordLen : Layer → ℕ
-recordLen y = fixedOf (y .kind) + storedLen (sumsOf (y .kind)) (termsOf (y .kind) (y .input))
+recordLen y = fixedLen (y .mark) + storedLen (sumsOf (y .kind)) (termsOf (y .kind) (y .input))

@@ -1,4 +1,4 @@
--- The two-byte mark before each record.
+-- The two-byte mark before each record, and the table by it.
 -- Assumes nothing.
 use Prim.Native.Nat.{ℕ, _+_, _-_}
 use mathlib.Core.List.{List}
@@ -28,3 +28,10 @@ fixedLen CV = 16
 fixedLen FU = 14
 fixedLen AD = 22
 fixedLen Other = 2
+
+-- how many first bytes a replacement shares: bytes 0–6 of a convolution, 0–3 of a full layer, 0–2 of an add
+abbrev pub agreeing : Mark → ℕ
+agreeing CV = 7
+agreeing FU = 4
+agreeing AD = 3
+agreeing Other = 2

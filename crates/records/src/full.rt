@@ -2,26 +2,17 @@
 ghost use mathlib.Core.Path.{_≡_};
 ghost use Prim.Native.Nat.{_+_, _≤_};
 ghost use lib.ListN.{length};
-ghost use Rattle.fields.specs.Shape.{GoodShape, SmallShape};
-ghost use Rattle.records.specs.Full.{fullWith, fullFields, fullOutput, readFull};
-use crate::layer::Kind;
-use crate::layer::Layer;
-use crate::layer::Read;
+ghost use Rattle.fields.specs.Shape.{SmallShape};
+ghost use Rattle.records.specs.Full.{fullAt, fullFields, fullOutput};
 use crate::layer::Scale;
-use crate::layer::answer_of;
 use fields::bytes::u16_at;
 use fields::bytes::u32_at;
 use fields::faults::clamp_fault;
 use fields::faults::first_of;
 use fields::faults::multiplier_fault;
-use fields::faults::outputs_fault;
+use fields::faults::one_to_256;
 use fields::faults::shift_fault;
-use fields::faults::spare_fault;
 use fields::shape::Shape;
-use fields::shape::bytes_of;
-use fields::shape::size_fault;
-use fields::stored::stored_fault;
-use fields::stored::stored_len;
 
 // v is the weight zero-point and zero the output's.
 pub struct Full {
@@ -33,10 +24,12 @@ pub struct Full {
     pub scale: Scale,
 }
 
-pub fn full_at(s: &[u8], at: usize, outputs: u16, multiplier: u32) -> Full
+pub fn full_at(s: &[u8], at: usize) -> Full
     requires { ⌜ at + 14 ≤ length (now s) ⌝ }
-    ensures { λ r. ⌜ r ≡ fullWith (now (s .entry)) at outputs multiplier ⌝ }
+    ensures { λ r. ⌜ r ≡ fullAt (now (s .entry)) at ⌝ }
 {
+    let outputs = u16_at(s, at + 2);
+    let multiplier = u32_at(s, at + 10);
     Full {
         outputs,
         v: s[at + 4],
@@ -59,7 +52,7 @@ pub fn full_fields(f: Full) -> u8
         multiplier_fault(f.scale.multiplier),
     );
     first_of(
-        outputs_fault(f.outputs),
+        one_to_256(f.outputs),
         first_of(clamp_fault(f.low, f.high), scale),
     )
 }
@@ -72,28 +65,4 @@ pub fn full_output(f: Full) -> Shape
         columns: 1,
         channels: f.outputs as usize,
     }
-}
-
-pub fn read_full(s: &[u8], at: usize, input: Shape, total: usize, sums: usize) -> Read
-    requires { ⌜ at + 14 ≤ length (now s) ⌝ }
-    requires { ⌜ total ≤ 65536 ⌝ }
-    requires { ⌜ GoodShape input ⌝ }
-    ensures { λ r. ⌜ r ≡ readFull (now (s .entry)) at input total sums ⌝ }
-{
-    let f = full_at(s, at, u16_at(s, at + 2), u32_at(s, at + 10));
-    let output = full_output(f);
-    let n = f.outputs as usize;
-    let w = bytes_of(input);
-    let stored = first_of(size_fault(output, total), stored_fault(s, at + 14, n, w));
-    let fault = first_of(spare_fault(s[at + 9]), first_of(full_fields(f), stored));
-    let next = at + 14 + stored_len(n, w);
-    let layer = Layer {
-        input,
-        output,
-        kind: Kind::Fully(f),
-        start: at,
-        place: total,
-        sums,
-    };
-    answer_of(fault, layer, next)
 }

@@ -1,12 +1,16 @@
-// A decoded layer: its shapes, its kind with the parameters, and where its parts stand.
+// A decoded layer: its mark, its shapes, its kind with the parameters, and where its parts stand.
 ghost use mathlib.Core.Path.{_≡_};
+ghost use Prim.Native.Nat.{_+_, _≤_};
 ghost use Rattle.fields.specs.Shape.{GoodShape};
-ghost use Rattle.records.specs.Layer.{answer, sumsOf, termsOf};
+ghost use Rattle.records.specs.Layer.{sumsOf, termsOf, otherOf, biasesAt, weightsAt, recordLen};
 use crate::add::Add;
 use crate::conv::Conv;
 use crate::full::Full;
+use crate::mark::Mark;
+use crate::mark::fixed_len;
 use fields::shape::Shape;
 use fields::shape::bytes_of;
+use fields::stored::stored_len;
 
 // A multiplier and a shift, by which a total is rescaled.
 pub struct Scale {
@@ -22,6 +26,7 @@ pub enum Kind {
 
 // Its record begins in the file at `start`, its output tensor in the area at `place`, its sums in the store at `sums`.
 pub struct Layer {
+    pub mark: Mark,
     pub input: Shape,
     pub output: Shape,
     pub kind: Kind,
@@ -30,24 +35,9 @@ pub struct Layer {
     pub sums: usize,
 }
 
-// What reading a layer's record finds: the refusal number, or the layer and where the next record begins.
-pub enum Read {
-    Refused(u8),
-    Found(Layer, usize),
-}
-
-pub fn answer_of(fault: u8, layer: Layer, next: usize) -> Read
-    ensures { λ r. ⌜ r ≡ answer fault layer next ⌝ }
-{
-    match fault {
-        0 => Read::Found(layer, next),
-        _ => Read::Refused(fault),
-    }
-}
-
 // How many stored sums a layer has: one for each filter or output.
 pub fn sums_of(kind: Kind) -> usize
-    ensures { λ r. ⌜ r ≡ sumsOf kind ⌝ }
+    ensures { λ r. ⌜ (r ≡ sumsOf kind) × (r ≤ 65535) ⌝ }
 {
     match kind {
         Kind::Convolution(c) => c.filters as usize,
@@ -56,16 +46,55 @@ pub fn sums_of(kind: Kind) -> usize
     }
 }
 
+// The other tensor that a layer after tensor m reads, or m itself.
+pub fn other_of(kind: Kind, m: usize) -> usize
+    ensures { λ r. ⌜ r ≡ otherOf kind m ⌝ }
+{
+    match kind {
+        Kind::Convolution(_) => m,
+        Kind::Fully(_) => m,
+        Kind::Addition(a) => a.other as usize,
+    }
+}
+
 // N: the terms of each output of a layer.
 pub fn terms_of(y: Layer) -> usize
     requires { ⌜ GoodShape (y .input) ⌝ }
-    ensures { λ r. ⌜ r ≡ termsOf (y .kind) (y .input) ⌝ }
+    ensures { λ r. ⌜ (r ≡ termsOf (y .kind) (y .input)) × (r ≤ 16777216) ⌝ }
 {
     let input = y.input;
     let kind = y.kind;
     match kind {
-        Kind::Convolution(c) => (c.height as usize * c.width as usize) * input.channels,
+        Kind::Convolution(c) => (c.frame.height as usize * c.frame.width as usize) * input.channels,
         Kind::Fully(_) => bytes_of(input),
         Kind::Addition(_) => 0,
     }
+}
+
+// Where a layer's biases begin in the file.
+pub fn biases_at(y: Layer) -> usize
+    requires { ⌜ y .start ≤ 65536 ⌝ }
+    ensures { λ r. ⌜ (r ≡ biasesAt y) × (r ≤ 65558) ⌝ }
+{
+    let mark = y.mark;
+    y.start + fixed_len(mark)
+}
+
+// Where its weights begin.
+pub fn weights_at(y: Layer) -> usize
+    requires { ⌜ y .start ≤ 65536 ⌝ }
+    ensures { λ r. ⌜ r ≡ weightsAt y ⌝ }
+{
+    let kind = y.kind;
+    biases_at(y) + 4 * sums_of(kind)
+}
+
+// The bytes of its whole record.
+pub fn record_len(y: Layer) -> usize
+    requires { ⌜ GoodShape (y .input) ⌝ }
+    ensures { λ r. ⌜ (r ≡ recordLen y) × (r ≤ 3000000000000) ⌝ }
+{
+    let mark = y.mark;
+    let kind = y.kind;
+    fixed_len(mark) + stored_len(sums_of(kind), terms_of(y))
 }

@@ -1,8 +1,8 @@
-// The two-byte mark before each record.
+// The two-byte mark before each record, and the table by it.
 ghost use mathlib.Core.Path.{_≡_};
 ghost use Prim.Native.Nat.{_+_, _≤_};
 ghost use lib.ListN.{length, getD};
-ghost use Rattle.records.specs.Mark.{isMark, markAt, fixedLen};
+ghost use Rattle.records.specs.Mark.{isMark, markAt, fixedLen, agreeing};
 
 // Which layer's record a mark begins.
 pub enum Mark {
@@ -51,6 +51,18 @@ pub fn fixed_len(m: Mark) -> usize
         Mark::CV => 16,
         Mark::FU => 14,
         Mark::AD => 22,
+        Mark::Other => 2,
+    }
+}
+
+// How many first bytes of a record its replacement shares.
+pub fn agreeing_of(m: Mark) -> usize
+    ensures { λ r. ⌜ r ≡ agreeing m ⌝ }
+{
+    match m {
+        Mark::CV => 7,
+        Mark::FU => 4,
+        Mark::AD => 3,
         Mark::Other => 2,
     }
 }

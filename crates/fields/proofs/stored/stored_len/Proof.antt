@@ -8,8 +8,8 @@ use borrow.Author.Needs.{needs}
 use Rattle.fields.proofs.stored.stored_len.Statement.{statement}
 use Rattle.fields.proofs.stored.stored_len.Tie as tie
 
-most : (c : tie.Start) → c .args .n * c .args .w ≤ 65535 * 1000000
-most c = mul-most (c .args .n) (c .args .w) 65535 1000000 (omega arith) (omega arith)
+most : (c : tie.Start) → c .args .n * c .args .w ≤ 65535 * 16777216
+most c = mul-most (c .args .n) (c .args .w) 65535 16777216 (omega arith) (omega arith)
 
 mul-result : tie.Need-mul-result
 mul-result c = search needs

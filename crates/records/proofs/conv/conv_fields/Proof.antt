@@ -1,3 +1,5 @@
+-- `records::conv::conv_fields` meets its contract.
+-- Assumes nothing.
 use borrow.Author.Needs.{needs}
 use Rattle.records.proofs.conv.conv_fields.Statement.{statement}
 use Rattle.records.proofs.conv.conv_fields.Tie as tie
@@ -17,35 +19,17 @@ clamp-fault-requires c κs = search needs
 first-of-requires-2 : tie.Need-first-of-requires-2
 first-of-requires-2 c κs = search needs
 
-padding-fault-requires : tie.Need-padding-fault-requires
-padding-fault-requires c κs = search needs
+one-to-64-requires : tie.Need-one-to-64-requires
+one-to-64-requires c κs = search needs
 
-stride-fault-requires : tie.Need-stride-fault-requires
-stride-fault-requires c κs = search needs
+frame-fields-requires : tie.Need-frame-fields-requires
+frame-fields-requires c κs = search needs
 
 first-of-requires-3 : tie.Need-first-of-requires-3
 first-of-requires-3 c κs = search needs
 
 first-of-requires-4 : tie.Need-first-of-requires-4
 first-of-requires-4 c κs = search needs
-
-kernel-fault-requires : tie.Need-kernel-fault-requires
-kernel-fault-requires c κs = search needs
-
-first-of-requires-5 : tie.Need-first-of-requires-5
-first-of-requires-5 c κs = search needs
-
-filters-fault-requires : tie.Need-filters-fault-requires
-filters-fault-requires c κs = search needs
-
-kernel-fault-requires-2 : tie.Need-kernel-fault-requires-2
-kernel-fault-requires-2 c κs = search needs
-
-first-of-requires-6 : tie.Need-first-of-requires-6
-first-of-requires-6 c κs = search needs
-
-first-of-requires-7 : tie.Need-first-of-requires-7
-first-of-requires-7 c κs = search needs
 
 returns : tie.Need-returns
 returns c = cc
@@ -59,14 +43,8 @@ conv-fields-spec =
     first-of-requires
     clamp-fault-requires
     first-of-requires-2
-    padding-fault-requires
-    stride-fault-requires
+    one-to-64-requires
+    frame-fields-requires
     first-of-requires-3
     first-of-requires-4
-    kernel-fault-requires
-    first-of-requires-5
-    filters-fault-requires
-    kernel-fault-requires-2
-    first-of-requires-6
-    first-of-requires-7
     returns)

@@ -1,4 +1,4 @@
--- `records::full::full_fields` meets its contract: each part is what its call gives.
+-- `records::full::full_fields` meets its contract.
 -- Assumes nothing.
 use borrow.Author.Needs.{needs}
 use Rattle.records.proofs.full.full_fields.Statement.{statement}
@@ -13,8 +13,8 @@ multiplier-fault-requires c κs = search needs
 first-of-requires : tie.Need-first-of-requires
 first-of-requires c κs = search needs
 
-outputs-fault-requires : tie.Need-outputs-fault-requires
-outputs-fault-requires c κs = search needs
+one-to-256-requires : tie.Need-one-to-256-requires
+one-to-256-requires c κs = search needs
 
 clamp-fault-requires : tie.Need-clamp-fault-requires
 clamp-fault-requires c κs = search needs
@@ -35,7 +35,7 @@ full-fields-spec =
     shift-fault-requires
     multiplier-fault-requires
     first-of-requires
-    outputs-fault-requires
+    one-to-256-requires
     clamp-fault-requires
     first-of-requires-2
     first-of-requires-3

@@ -1,58 +1,48 @@
--- `records::layer::terms_of` meets its contract, by the kind.
+-- `records::layer::terms_of` meets its contract.
 -- Assumes nothing.
-use Prim.Native.Nat.{_*_}
+use Prim.Native.Nat.{_*_, _≤_}
 use native.Mathlib.Omega.{arith}
-use borrow.Author.Needs.{needs}
 use Rattle.fields.proofs.Shapes.{mul-most}
+use borrow.Author.Needs.{needs}
 use Rattle.records.proofs.layer.terms_of.Statement.{statement}
 use Rattle.records.proofs.layer.terms_of.Tie as tie
-use Rattle.records.proofs.layer.terms_of.Reads as reads
-use Rattle.records.proofs.layer.terms_of.Lts as lts
-use Rattle.fields.proofs.shape.bytes_of.Reads as bytes-of-reads
 
--- src/layer.rt:67:27
 enum-known-kind : tie.Need-enum-known-kind
 enum-known-kind c = search needs
 
--- src/layer.rt:67:34
 cast-result : tie.Need-cast-result
 cast-result c = search needs
 
--- src/layer.rt:67:54
 cast-result-2 : tie.Need-cast-result-2
 cast-result-2 c = search needs
 
--- src/layer.rt:67:34
 mul-result : tie.Need-mul-result
-mul-result c = let k = c .before .before .before .kind .given .0 .0 in omega (arith, mul-most (k .height) (k .width) 255 255 (omega arith) (omega arith))
+mul-result c =
+    let k = c .before .before .before .kind .given .0 .0 .frame in
+    omega (arith, mul-most (k .height) (k .width) 255 255 (omega arith) (omega arith))
 
--- src/layer.rt:67:33
 mul-result-2 : tie.Need-mul-result-2
 mul-result-2 c =
-    let k = c .before .before .before .before .kind .given .0 .0 in
+    let k = c .before .before .before .before .kind .given .0 .0 .frame in
     omega (arith, mul-most (k .height * k .width) (c .before .before .before .before .before .before .before .args .y .input .channels) 65025 256 (mul-most (k .height) (k .width) 255 255 (omega arith) (omega arith)) (c .before .before .before .before .before .before .before .pre .channels-few))
 
--- src/layer.rt:68:27
 enum-told : tie.Need-enum-told
 enum-told c = search needs
 
--- src/layer.rt:68:27
 bytes-of-requires : tie.Need-bytes-of-requires
 bytes-of-requires c κs = search needs
 
--- src/layer.rt:69:30
 enum-told-2 : tie.Need-enum-told-2
 enum-told-2 c = search needs
 
--- src/layer.rt:60:1
 returns : tie.Need-returns
-returns c = rw (c .before .before .before .before .kind .given .1)
+returns c =
+    let k = c .before .before .before .before .kind .given .0 .0 .frame in
+    (rw (c .before .before .before .before .kind .given .1), omega (arith, mul-most (k .height * k .width) (c .before .before .before .before .before .before .before .args .y .input .channels) 65025 256 (mul-most (k .height) (k .width) 255 255 (omega arith) (omega arith)) (c .before .before .before .before .before .before .before .pre .channels-few)))
 
--- src/layer.rt:60:1
 returns-2 : tie.Need-returns-2
-returns-2 c = rw (c .before .enum-told .given .1) (c .bytes-of .ensures)
+returns-2 c = (rw (c .before .enum-told .given .1) (c .bytes-of .ensures), omega (arith, c .bytes-of .ensures, c .before .before .before .before .pre .bytes-few))
 
--- src/layer.rt:60:1
 returns-3 : tie.Need-returns-3
 returns-3 c = search needs
 

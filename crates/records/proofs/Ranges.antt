@@ -1,0 +1,114 @@
+-- The kinds of layer: what no fault of a record's own says of its parameters, and what an input that suits them has.
+-- Assumes nothing.
+use Prim.Native.Nat.{ℕ, _≤_}
+use mathlib.Core.Path.{_≡_}
+use mathlib.Core.List.{List}
+use native.Mathlib.Omega.{arith}
+use borrow.Author.Tests.{leb-true}
+use Rattle.fields.specs.Shape.{bytesOf, GoodShape}
+use Rattle.fields.specs.declared.shape.Shape.{Shape}
+use Rattle.fields.proofs.Tests.{first-both, unless-none, and-both, within-in, clamp-in}
+use Rattle.fields.proofs.Shapes.{good-shape, same-equal}
+use Rattle.records.specs.Mark.{fixedLen}
+use Rattle.records.specs.Frame.{Fits}
+use Rattle.records.specs.Conv.{ConvOk, convAt, convFields}
+use Rattle.records.specs.Full.{FullOk, fullAt, fullFields}
+use Rattle.records.specs.Add.{AddOk, addAt, addFields}
+use Rattle.records.specs.Layer.{sumsOf, outputShape, KindOk}
+use Rattle.records.specs.Reader.{kindAt, ownFault, suitFault}
+use Rattle.records.specs.declared.conv.Conv.{Conv}
+use Rattle.records.specs.declared.full.Full.{Full}
+use Rattle.records.specs.declared.add.Add.{Add}
+use Rattle.records.specs.declared.layer.Kind.{Kind}
+use Rattle.records.specs.declared.layer.Kind.the-variants.{Convolution, Fully, Addition}
+use Rattle.records.specs.declared.mark.Mark.{Mark}
+use Rattle.records.specs.declared.mark.Mark.the-variants.{CV, FU, AD, Other}
+use Rattle.records.specs.declared.reader.Before.{Before}
+use Rattle.records.proofs.Frames.{frame-ok, frame-fits, frame-good}
+
+conv-ok : (c : Conv) → convFields c ≡ 0 → ConvOk c
+conv-ok c p =
+    let a = first-both _ _ p in
+    let b = first-both _ _ (a .1) in
+    let d = first-both _ _ (b .1) in
+    let e = first-both _ _ (d .1) in
+    let filters = within-in 1 64 (c .filters) (a .0) in
+    record {
+      filters-some = filters .0;
+      filters-few = filters .1;
+      frame = frame-ok (c .frame) (b .0);
+      clamp = clamp-in (c .low) (c .high) (d .0);
+      shift-few = within-in 0 31 (c .scale .shift) (e .0) .1;
+      multiplier-few = within-in 1073741824 2147483647 (c .scale .multiplier) (e .1) .1;
+    }
+
+full-ok : (f : Full) → fullFields f ≡ 0 → FullOk f
+full-ok f p =
+    let a = first-both _ _ p in
+    let b = first-both _ _ (a .1) in
+    let d = first-both _ _ (b .1) in
+    let outputs = within-in 1 256 (f .outputs) (a .0) in
+    record {
+      outputs-some = outputs .0;
+      outputs-few = outputs .1;
+      clamp = clamp-in (f .low) (f .high) (b .0);
+      shift-few = within-in 0 31 (f .scale .shift) (d .0) .1;
+      multiplier-few = within-in 1073741824 2147483647 (f .scale .multiplier) (d .1) .1;
+    }
+
+add-ok : (a : Add) → addFields a ≡ 0 → AddOk a
+add-ok a p =
+    let b = first-both _ _ p in
+    let d = first-both _ _ (b .1) in
+    let e = first-both _ _ (d .1) in
+    let f = first-both _ _ (e .1) in
+    let g = first-both _ _ (f .1) in
+    let h = first-both _ _ (g .1) in
+    record {
+      clamp = clamp-in (a .low) (a .high) (b .0);
+      first-multiplier = within-in 1073741824 2147483647 (a .first .multiplier) (d .0) .1;
+      second-multiplier = within-in 1073741824 2147483647 (a .second .multiplier) (e .0) .1;
+      third-multiplier = within-in 1073741824 2147483647 (a .third .multiplier) (f .0) .1;
+      first-shift = within-in 0 31 (a .first .shift) (g .0) .1;
+      second-shift = within-in 0 31 (a .second .shift) (h .0) .1;
+      third-shift = within-in 0 31 (a .third .shift) (h .1) .1;
+    }
+
+-- no fault of the record's own: its parameters are in their ranges
+pub own-ok : (m : Mark) (s : List ℕ) (at : ℕ) → ownFault m s at ≡ 0 → KindOk (kindAt m s at)
+unfolding ownFault
+own-ok CV s at h = conv-ok (convAt s at) h
+own-ok FU s at h = full-ok (fullAt s at) (first-both _ _ h .1)
+own-ok AD s at h = add-ok (addAt s at) (first-both _ _ h .1)
+own-ok Other s at h = absurd (omega arith)
+
+-- a fixed part is short
+pub fixed-few : (m : Mark) → fixedLen m ≤ 22
+fixed-few CV = omega arith
+fixed-few FU = omega arith
+fixed-few AD = omega arith
+fixed-few Other = omega arith
+
+-- a layer has few sums
+pub sums-few : (k : Kind) → KindOk k → sumsOf k ≤ 256
+sums-few (Convolution c) ok = omega (arith, ok .filters-few)
+sums-few (Fully f) ok = ok .outputs-few
+sums-few (Addition a) ok = omega arith
+
+-- what it makes is of a good shape where it is not too big
+pub output-good : (k : Kind) (i : Shape) → KindOk k → GoodShape i → bytesOf (outputShape k i) ≤ 16384 → GoodShape (outputShape k i)
+output-good (Convolution c) i ok g b = frame-good (c .frame) i (c .filters) (ok .filters-some) (omega (arith, ok .filters-few)) b
+output-good (Fully f) i ok g b = good-shape _ (omega arith) (omega arith) (ok .outputs-some) (ok .outputs-few) b
+output-good (Addition a) i ok g b = g
+
+-- a convolution's frame fits the input that suits it
+pub conv-suits : (c : Conv) (b : Before) (other : Shape) → suitFault (Convolution c) b other ≡ 0 → Fits (c .frame) (b .input)
+unfolding suitFault
+conv-suits c b other h = frame-fits (c .frame) (b .input) (unless-none _ 2 h)
+
+-- an add's other tensor is there, and of the shape of the input that suits it
+pub add-suits : (a : Add) (b : Before) (other : Shape) → suitFault (Addition a) b other ≡ 0 → (a .other ≤ b .made) × (other ≡ b .input)
+unfolding suitFault
+add-suits a b other h =
+    let p = and-both _ _ (unless-none _ 2 h) in
+    (leb-true _ _ (p .0), same-equal other (b .input) (p .1))

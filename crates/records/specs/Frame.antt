@@ -1,0 +1,45 @@
+-- The frame of a windowed layer: its kernel, its stride and its padding.
+-- Assumes nothing.
+use Prim.Native.Nat.{ℕ, _+_, _-_, _*_, _/_, _≤_, _<_}
+use mathlib.Core.Bool.{Bool, _&&_}
+use mathlib.Core.List.{[], _∷_}
+use lib.Dec.{leb}
+use Rattle.fields.specs.Faults.{firstFault, within, paddingFault}
+use Rattle.fields.specs.declared.shape.Shape.{Shape}
+use Rattle.records.specs.declared.frame.Frame.{Frame}
+
+-- the fields in file order
+abbrev pub frameFields : Frame → ℕ
+frameFields f = firstFault (
+    within 1 7 (f .height) ∷
+    within 1 7 (f .width) ∷
+    within 1 4 (f .stride) ∷
+    paddingFault (f .padding) (f .height) (f .width) ∷ [])
+
+-- each padded side is at least the kernel's
+unfoldable pub fits : Frame → Shape → Bool
+fits f i = leb (f .height) (i .rows + 2 * f .padding) && leb (f .width) (i .columns + 2 * f .padding)
+
+-- floor((rows + 2p − kernel rows) / stride) + 1 output rows, columns likewise, and so many channels
+unfoldable pub frameOutput : Frame → Shape → ℕ → Shape
+frameOutput f i channels = record {
+  rows = (i .rows + 2 * f .padding - f .height) / f .stride + 1;
+  columns = (i .columns + 2 * f .padding - f .width) / f .stride + 1;
+  channels = channels;
+}
+
+-- fields in their ranges
+pub record FrameOk (f : Frame) : Type 0 where
+  pub height-some : 1 ≤ f .height
+  pub height-few : f .height ≤ 7
+  pub width-some : 1 ≤ f .width
+  pub width-few : f .width ≤ 7
+  pub stride-some : 1 ≤ f .stride
+  pub stride-few : f .stride ≤ 4
+  pub padding-rows : f .padding < f .height
+  pub padding-columns : f .padding < f .width
+
+-- a frame that fits its input
+pub record Fits (f : Frame) (i : Shape) : Type 0 where
+  pub rows-fit : f .height ≤ i .rows + 2 * f .padding
+  pub columns-fit : f .width ≤ i .columns + 2 * f .padding
