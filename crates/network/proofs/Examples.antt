@@ -9,14 +9,12 @@ use Rattle.fields.specs.Faults.{first, within, biasFault, clampFault, paddingFa
 use Rattle.records.specs.Mark.{isMark, markAt}
 use Rattle.fields.specs.Shape.{bytesOf, sizeFault, sameShape}
 use Rattle.fields.specs.Stored.{biasFaults, storedLen, storedFault}
-use Rattle.records.specs.Layer.{answer}
-use Rattle.records.specs.Conv.{convOutput, convShape, convTerms, readConvAs}
-use Rattle.records.specs.Full.{fullOutput, readFull}
-use Rattle.records.specs.Add.{addShape, readAdd}
+use Rattle.records.specs.Frame.{fits, frameOutput}
+use Rattle.records.specs.Reader.{ownFault, suitFault, answer, readAs}
 use Rattle.network.specs.Network.{layerOf}
 use Rattle.network.specs.Head.{pictureAt, headMark, headFault}
 use Rattle.network.specs.Decode.{readLayer, stopped, started, startOf, pushed, stepOf, runOf, endFault, decodedAs, decodeOf}
-use Rattle.network.specs.Replace.{agree, convRecordFault, fullRecordFault, addRecordFault, replaceFault}
+use Rattle.network.specs.Replace.{agree, replaceFault}
 
 -- ---- records
 
@@ -137,5 +135,5 @@ replacements =
 pub refused :
     (map (λ c. decodeOf (c .0) .refusal) cases ≡ map (λ c. c .1) cases) ×
     (map (λ c. replaceFault (c .0) (layerOf (decodeOf (c .0) .network) 0) (c .1)) replacements ≡ map (λ c. c .2) replacements)
-unfolding signed first within biasFault clampFault paddingFault spareFault cutFault isMark markAt bytesOf sizeFault sameShape biasFaults storedLen storedFault answer convOutput convShape convTerms readConvAs fullOutput readFull addShape readAdd pictureAt headMark headFault readLayer stopped started startOf pushed stepOf runOf endFault decodedAs decodeOf agree convRecordFault fullRecordFault addRecordFault replaceFault
+unfolding signed first within biasFault clampFault paddingFault spareFault cutFault isMark markAt bytesOf sizeFault sameShape biasFaults storedLen storedFault fits frameOutput ownFault suitFault answer readAs pictureAt headMark headFault readLayer stopped started startOf pushed stepOf runOf endFault decodedAs decodeOf agree replaceFault
 refused = (refl, refl)

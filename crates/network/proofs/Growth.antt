@@ -8,9 +8,7 @@ use borrow.Author.Count.{below-more}
 use lib.ListN.{length}
 use lib.Seq.{getD-set-same, getD-set-other}
 use Rattle.fields.specs.Shape.{bytesOf, GoodShape}
-use Rattle.records.specs.Layer.{sumsOf, recordLen}
-use Rattle.records.specs.declared.layer.Kind.{Kind}
-use Rattle.records.specs.declared.layer.Kind.the-variants.{Convolution, Fully, Addition}
+use Rattle.records.specs.Layer.{sumsOf, otherOf, recordLen}
 use Rattle.records.specs.declared.layer.Layer.{Layer}
 use Rattle.network.specs.Network.{blankLayer, layerOf, tensorOf, placeOf}
 use Rattle.network.specs.Decode.{pushed}
@@ -81,21 +79,20 @@ module _ (s : List ℕ) (n n′ : Network) (made : ℕ) (l : Layer) (e : Extends
   sums-same zero h = refl
   sums-same (suc m) h = ap (λ (y : Layer). y .sums + sumsOf (y .kind)) (e .before m h)
 
-  kind-kept : (m : ℕ) (y : Layer) (k : Kind) → m ≤ made → KindTaken s n m y k → KindTaken s n′ m y k
-  kind-kept m y (Convolution c) h t = t
-  kind-kept m y (Fully f) h t = t
-  kind-kept m y (Addition a) h t = record {
+  kind-kept : (m : ℕ) (y : Layer) → m ≤ made → KindTaken s n m y → KindTaken s n′ m y
+  kind-kept m y h t = record {
     read = t .read;
     ok = t .ok;
-    other-there = t .other-there;
-    other-shape = tensor-same (a .other) (omega (arith, t .other-there)) ∙ t .other-shape;
+    fits = t .fits;
     output = t .output;
+    other-there = t .other-there;
+    other-shape = tensor-same (otherOf (y .kind) m) (omega (arith, t .other-there)) ∙ t .other-shape;
   }
 
   layer-kept : (m : ℕ) (y : Layer) → m ≤ made → LayerTaken s n m y → LayerTaken s n′ m y
   layer-kept m y h t = record {
     input = t .input ∙ sym (tensor-same m h);
-    kind = kind-kept m y (y .kind) h (t .kind);
+    kind = kind-kept m y h (t .kind);
     record-in = t .record-in;
     biases = t .biases;
     place = t .place ∙ sym (place-and-bytes m h);
@@ -109,9 +106,9 @@ module _ (s : List ℕ) (n n′ : Network) (made : ℕ) (l : Layer) (e : Extends
     layer-new : LayerTaken s n′ made l
     layer-new = record {
       input = g .input ∙ sym (tensor-same made (omega arith));
-      kind = kind-kept made l (l .kind) (omega arith) (g .kind);
-      record-in = omega (arith, g .start, g .left .next-is, g .left .next-in);
-      biases = g .left .biases;
+      kind = kind-kept made l (omega arith) (g .kind);
+      record-in = omega (arith, g .start, g .next-is, g .next-in);
+      biases = g .biases;
       place = rw (place-same made (omega arith), tensor-same made (omega arith)) (g .place ∙ r .area-is);
       place-end = omega (arith, g .place, e .area);
       sums-end = omega (arith, g .sums, e .store);
@@ -119,15 +116,15 @@ module _ (s : List ℕ) (n n′ : Network) (made : ℕ) (l : Layer) (e : Extends
 
     pub sofar-more : Sofar s n′ (suc made) next
     sofar-more = record {
-      at-in = g .left .next-in;
-      at-is = omega (arith, ap (λ (y : Layer). y .start + recordLen y) (e .new), g .start, g .left .next-is);
+      at-in = g .next-in;
+      at-is = omega (arith, ap (λ (y : Layer). y .start + recordLen y) (e .new), g .start, g .next-is);
       area-is = omega (arith, ap (λ (y : Layer). y .place + bytesOf (y .output)) (e .new), g .place, e .area);
-      area-few = omega (arith, g .left .area-few, e .area);
+      area-few = omega (arith, g .area-few, e .area);
       store-is = omega (arith, ap (λ (y : Layer). y .sums + sumsOf (y .kind)) (e .new), g .sums, e .store);
-      store-few = omega (arith, g .left .sums-few, r .store-few, e .store);
+      store-few = omega (arith, g .sums-few, r .store-few, e .store);
       shapes = λ t q. below-more (λ (k : ℕ). GoodShape (tensorOf n′ k)) (suc made)
           (λ k h. subst⁻¹ GoodShape (tensor-same k (omega arith)) (r .shapes k (omega arith)))
-          (subst⁻¹ (λ (y : Layer). GoodShape (y .output)) (e .new) (g .left .output-good)) t q;
+          (subst⁻¹ (λ (y : Layer). GoodShape (y .output)) (e .new) (g .output-good)) t q;
       layers = λ m q. below-more (λ (k : ℕ). LayerTaken s n′ k (layerOf n′ k)) made
           (λ k h. rw (e .before k h) (layer-kept k (layerOf n k) (omega arith) (r .layers k h)))
           (rw (e .new) layer-new) m (omega arith);

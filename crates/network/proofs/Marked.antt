@@ -1,56 +1,28 @@
--- The record of the next layer, by its mark.
+-- The record of the next layer, as it is taken.
 -- Assumes nothing.
-use Prim.Native.Nat.{ℕ, zero, suc, _+_, _≤_, min}
+use Prim.Native.Nat.{ℕ, _+_, _*_, _^_, _≤_, _<_, min}
 use mathlib.Core.Path.{_≡_, refl, sym, _∙_, ap, subst⁻¹}
 use mathlib.Core.List.{List}
 use native.Mathlib.Omega.{arith}
 use native.Mathlib.Nat.{min-eq-left}
+use lib.IntN.{natAbs}
 use lib.ListN.{length}
-use Rattle.fields.specs.Faults.{cutFault}
-use Rattle.fields.specs.Bytes.{byteAt}
-use Rattle.records.specs.Mark.{markAt, fixedLen}
-use Rattle.fields.specs.Shape.{GoodShape}
+use Rattle.fields.specs.Bytes.{i32At}
+use Rattle.fields.specs.Shape.{bytesOf, GoodShape}
+use Rattle.records.specs.Mark.{markAt}
+use Rattle.records.specs.Layer.{sumsOf, otherOf, biasesAt, recordLen}
+use Rattle.records.specs.Reader.{kindAt, suitFault, layerWith}
+use Rattle.records.specs.declared.layer.Kind.{Kind}
+use Rattle.records.specs.declared.layer.Kind.the-variants.{Convolution, Fully, Addition}
 use Rattle.records.specs.declared.layer.Layer.{Layer}
-use Rattle.records.specs.declared.layer.Read.{Read}
-use Rattle.records.specs.declared.layer.Read.the-variants.{Refused, Found}
-use Rattle.records.specs.declared.mark.Mark.{Mark}
-use Rattle.records.specs.declared.mark.Mark.the-variants.{CV, FU, AD, Other}
-use Rattle.fields.proofs.Tests.{cut-there}
-use Rattle.records.proofs.Answers.{Answered, answered-map, answered-found}
-use Rattle.records.proofs.Taken.{Left, ConvFound, FullFound, AddFound, conv-found, full-found, add-found}
-use Rattle.network.proofs.Passing.{unless-cut}
+use Rattle.records.specs.declared.reader.Read.the-variants.{Found}
+use Rattle.records.proofs.Ranges.{own-ok, suits-fit, add-suits}
+use Rattle.records.proofs.Answers.{Answered, answered-map, answered-found, passes-left}
 use Rattle.network.specs.Network.{tensorOf}
-use Rattle.network.specs.Decode.{unlessCut, readMarked, readLayer}
+use Rattle.network.specs.Decode.{beforeOf, otherShape, readLayer}
 use Rattle.network.specs.Taken.{KindTaken}
 use Rattle.network.specs.declared.net.Network.{Network}
-
--- the fixed part is cut, or the record decides
-pub stop-cut : (r f : ℕ) (x : Read) → r ≡ f → (r ≡ 0 → ⊥) → Refused r ≡ unlessCut f x
-stop-cut zero f x e h = absurd (h refl)
-stop-cut (suc r) f x e h = ap (λ (k : ℕ). unlessCut k x) e
-
-pub pass-cut : (r f : ℕ) (x y : Read) → r ≡ f → r ≡ 0 → y ≡ x → y ≡ unlessCut f x
-pass-cut r f x y e h p = p ∙ ap (λ (k : ℕ). unlessCut k x) (sym h ∙ e)
-
--- the fixed part of a record with mark m
-pub mark-cut :
-    (s : List ℕ) (at : ℕ) (m : Mark) (n r : ℕ) →
-    m ≡ markAt s at →
-    n ≡ fixedLen m →
-    r ≡ cutFault s at n →
-    r ≡ cutFault s at (fixedLen (markAt s at))
-mark-cut s at m n r hm hn hr = hr ∙ ap (cutFault s at) (hn ∙ ap fixedLen hm)
-
-pub mark-there :
-    (s : List ℕ) (at : ℕ) (m w : Mark) (n r : ℕ) →
-    at ≤ length s →
-    n ≡ fixedLen m →
-    r ≡ cutFault s at n →
-    r ≡ 0 →
-    m ≡ w →
-    at + fixedLen w ≤ length s
-mark-there s at m w n r a hn hr h e =
-    cut-there s at (fixedLen w) a (sym (hr ∙ ap (cutFault s at) (hn ∙ ap fixedLen e)) ∙ h)
+use Rattle.network.proofs.Passing.{FoundAt, read-found}
 
 -- a record that is taken, as layer `made` of a network that has as many layers
 pub record Grown (s : List ℕ) (n : Network) (made at : ℕ) (l : Layer) (next : ℕ) : Type 0 where
@@ -58,86 +30,59 @@ pub record Grown (s : List ℕ) (n : Network) (made at : ℕ) (l : Layer) (next 
   pub place : l .place ≡ n .area
   pub sums : l .sums ≡ n .store
   pub input : l .input ≡ tensorOf n made
-  pub kind : KindTaken s n made l (l .kind)
-  pub left : Left s at (n .area) l next
+  pub kind : KindTaken s n made l
+  pub next-is : next ≡ at + recordLen l
+  pub next-in : next ≤ length s
+  pub biases : (f : ℕ) → f < sumsOf (l .kind) → natAbs (i32At s (biasesAt l + 4 * f)) ≤ 2 ^ 30
+  pub output-good : GoodShape (l .output)
+  pub area-few : n .area + bytesOf (l .output) ≤ 65536
+  pub sums-few : sumsOf (l .kind) ≤ 256
 
-module _ (s : List ℕ) (at : ℕ) (n : Network) (made : ℕ) (l : Layer) (next : ℕ) where
-  -- the layer is y, whose record begins at `at`
-  grown-as :
-      (y : Layer) →
-      l ≡ y →
-      y .start ≡ at →
-      y .place ≡ n .area →
-      y .sums ≡ n .store →
-      y .input ≡ tensorOf n made →
-      KindTaken s n made y (y .kind) →
-      Left s at (n .area) l next →
-      Grown s n made at l next
-  grown-as y e start place sums input kind left = record {
-    start = ap (λ (x : Layer). x .start) e ∙ start;
-    place = ap (λ (x : Layer). x .place) e ∙ place;
-    sums = ap (λ (x : Layer). x .sums) e ∙ sums;
-    input = ap (λ (x : Layer). x .input) e ∙ input;
-    kind = subst⁻¹ (λ (x : Layer). KindTaken s n made x (x .kind)) e kind;
-    left = left;
-  }
+-- the other tensor that a layer reads is there, and of the shape of its input
+other-suits :
+    (n : Network) (made : ℕ) (k : Kind) →
+    suitFault k (beforeOf n made) (otherShape n k made) ≡ 0 →
+    (otherOf k made ≤ made) × (tensorOf n (otherOf k made) ≡ tensorOf n made)
+other-suits n made (Convolution c) h = (omega arith, refl)
+other-suits n made (Fully f) h = (omega arith, refl)
+other-suits n made (Addition a) h =
+    let p = add-suits a (beforeOf n made) (otherShape n (Addition a) made) h in
+    (p .0, sym (ap (tensorOf n) (min-eq-left (p .0))) ∙ p .1)
 
-  conv-grown : ConvFound s at (tensorOf n made) (n .area) (n .store) l next → Grown s n made at l next
-  conv-grown f =
-      grown-as _ (f .layer) refl refl refl refl
-      (record { read = refl; ok = f .ok; rows-fit = f .rows-fit; columns-fit = f .columns-fit; output = refl })
-      (f .left)
-
-  full-grown : FullFound s at (tensorOf n made) (n .area) (n .store) l next → Grown s n made at l next
-  full-grown f = grown-as _ (f .layer) refl refl refl refl (record { read = refl; ok = f .ok; output = refl }) (f .left)
-
-  -- the other tensor is there, so its number is the smaller one
-  add-grown :
-      AddFound s at (tensorOf n made) (n .area) (n .store) made (tensorOf n (min (byteAt s (at + 2)) made)) l next →
-      Grown s n made at l next
-  add-grown f =
-      grown-as _ (f .layer) refl refl refl refl
+module _ (s : List ℕ) (at : ℕ) (n : Network) (made : ℕ) (h : at ≤ length s) (g : GoodShape (tensorOf n made)) where
+  as-grown : (l : Layer) (next : ℕ) → FoundAt s at n made l next → Grown s n made at l next
+  as-grown l next f =
+      let m = markAt s at in
+      let k = kindAt m s at in
+      let b = beforeOf n made in
+      let p = f .passes in
+      let left = passes-left m k s at b (otherShape n k made) h refl g p in
+      let other = other-suits n made k (p .suit) in
+      let next-is = f .next-is ∙ ap (λ (y : Layer). at + recordLen y) (f .layer) in
+      subst⁻¹ (λ (y : Layer). Grown s n made at y next) (f .layer)
       (record {
-        read = refl;
-        ok = f .ok;
-        other-there = f .other-there;
-        other-shape = sym (ap (tensorOf n) (min-eq-left (f .other-there))) ∙ f .other-shape;
-        output = refl;
+        start = refl;
+        place = refl;
+        sums = refl;
+        input = refl;
+        kind = record {
+          read = refl;
+          ok = own-ok m s at (p .own);
+          fits = suits-fit k b (otherShape n k made) (p .suit);
+          output = refl;
+          other-there = other .0;
+          other-shape = other .1;
+        };
+        next-is = next-is;
+        next-in = omega (arith, next-is, left .next-in);
+        biases = left .biases;
+        output-good = left .output-good;
+        area-few = left .area-few;
+        sums-few = left .sums-few;
       })
-      (f .left)
 
-module _ (s : List ℕ) (at : ℕ) (n : Network) (made : ℕ) where
-  marked-grown :
-      (m : Mark) →
-      at + fixedLen m ≤ length s →
-      GoodShape (tensorOf n made) →
-      Answered (Grown s n made at) (readMarked m s at n made)
-  marked-grown CV h g =
-      let i = tensorOf n made in
-      answered-map (ConvFound s at i (n .area) (n .store)) (Grown s n made at) (readMarked CV s at n made) (conv-grown s at n made)
-      (conv-found s at i (n .area) (n .store) h)
-  marked-grown FU h g =
-      let i = tensorOf n made in
-      answered-map (FullFound s at i (n .area) (n .store)) (Grown s n made at) (readMarked FU s at n made) (full-grown s at n made)
-      (full-found s at i (n .area) (n .store) h)
-  marked-grown AD h g =
-      let i = tensorOf n made in
-      let other = tensorOf n (min (byteAt s (at + 2)) made) in
-      answered-map (AddFound s at i (n .area) (n .store) made other) (Grown s n made at) (readMarked AD s at n made) (add-grown s at n made)
-      (add-found s at i (n .area) (n .store) made other h g)
-  marked-grown Other h g = omega arith
+  pub read-grown : Answered (Grown s n made at) (readLayer s at n made)
+  read-grown = answered-map (FoundAt s at n made) (Grown s n made at) (readLayer s at n made) as-grown (read-found s at n made)
 
-  pub read-grown : at ≤ length s → GoodShape (tensorOf n made) → Answered (Grown s n made at) (readLayer s at n made)
-  unfolding readLayer
-  read-grown h g =
-      unless-cut (Grown s n made at) (cutFault s at (fixedLen (markAt s at))) (readMarked (markAt s at) s at n made)
-      (λ p. marked-grown (markAt s at) (cut-there s at (fixedLen (markAt s at)) h p) g)
-
-pub found-grown :
-    (s : List ℕ) (at : ℕ) (n : Network) (made : ℕ) (l : Layer) (next : ℕ) →
-    at ≤ length s →
-    GoodShape (tensorOf n made) →
-    Found l next ≡ readLayer s at n made →
-    Grown s n made at l next
-found-grown s at n made l next h g e =
-    answered-found (Grown s n made at) (readLayer s at n made) l next e (read-grown s at n made h g)
+  pub found-grown : (l : Layer) (next : ℕ) → Found l next ≡ readLayer s at n made → Grown s n made at l next
+  found-grown l next e = answered-found (Grown s n made at) (readLayer s at n made) l next e read-grown

@@ -13,11 +13,13 @@ use lib.ListN.{length}
 use Rattle.fields.specs.Faults.{unless}
 use Rattle.fields.specs.Bytes.{byteAt}
 use Rattle.fields.specs.Stored.{storedLen}
-use Rattle.records.specs.Layer.{sumsOf, fixedOf, recordLen}
-use Rattle.records.specs.declared.layer.Kind.{Kind}
-use Rattle.records.specs.declared.layer.Kind.the-variants.{Convolution, Fully, Addition}
+use Rattle.records.specs.Mark.{fixedLen, agreeing}
+use Rattle.records.specs.Layer.{sumsOf, recordLen}
+use Rattle.records.specs.Reader.{recordFault}
 use Rattle.records.specs.declared.layer.Layer.{Layer}
-use Rattle.network.specs.Replace.{agree, agreeing, recordFault, replaceFault}
+use Rattle.records.specs.declared.mark.Mark.{Mark}
+use Rattle.records.specs.declared.mark.Mark.the-variants.{CV, FU, AD, Other}
+use Rattle.network.specs.Replace.{agree, replaceFault}
 
 and-false : (a b : Bool) → b ≡ false → a && b ≡ false
 and-false true b e = e
@@ -44,22 +46,23 @@ module _ (s : List ℕ) (at : ℕ) (r : List ℕ) where
         let e : i ≡ n = omega arith in
         and-false (agree s at r n) _ (ne-eqb (byteAt s (at + n)) (byteAt r n) (subst (λ (k : ℕ). byteAt s (at + k) ≡ byteAt r k → ⊥) e d))
 
--- the bytes that must agree, and the fixed part with the biases, are within the record
-pub agreeing-in : (k : Kind) (w : ℕ) → agreeing k ≤ fixedOf k + storedLen (sumsOf k) w
-agreeing-in (Convolution c) w = omega arith
-agreeing-in (Fully f) w = omega arith
-agreeing-in (Addition a) w = omega arith
+-- the mark is among the bytes that must agree, and these, and the fixed part with the biases, are within the record
+pub agreeing-in : (m : Mark) (n w : ℕ) → (2 ≤ agreeing m) × (agreeing m ≤ fixedLen m + storedLen n w)
+agreeing-in CV n w = omega arith
+agreeing-in FU n w = omega arith
+agreeing-in AD n w = omega arith
+agreeing-in Other n w = omega arith
 
-pub biases-in-record : (k : Kind) (w : ℕ) → fixedOf k + 4 * sumsOf k ≤ fixedOf k + storedLen (sumsOf k) w
+pub biases-in-record : (m : Mark) (n w : ℕ) → fixedLen m + 4 * n ≤ fixedLen m + storedLen n w
 unfolding storedLen
-biases-in-record k w = omega arith
+biases-in-record m n w = omega arith
 
 -- the three parts of the test
 pub tested :
     (s : List ℕ) (y : Layer) (r : List ℕ) (a b c : Bool) →
     eqb (length r) (recordLen y) ≡ a →
-    agree s (y .start) r (agreeing (y .kind)) ≡ b →
-    eqb (recordFault (y .kind) r) 0 ≡ c →
+    agree s (y .start) r (agreeing (y .mark)) ≡ b →
+    eqb (recordFault (y .mark) r (sumsOf (y .kind))) 0 ≡ c →
     unless (a && b && c) 9 ≡ replaceFault s y r
 unfolding replaceFault
 tested s y r a b c ea eb ec = simp (ea, eb, ec)

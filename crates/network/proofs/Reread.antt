@@ -9,16 +9,15 @@ use lib.Seq.{getD-set-same, getD-set-other, set-set, set-comm, map-set-same}
 use Rattle.fields.specs.Bytes.{byteAt}
 use Rattle.fields.specs.Faults.{first, cutFault}
 use Rattle.records.specs.Mark.{isMark, markAt}
-use Rattle.records.specs.Layer.{sumsOf, recordLen}
+use Rattle.records.specs.Reader.{kindAt, readAs}
+use Rattle.records.specs.Layer.{sumsOf, otherOf, recordLen}
 use Rattle.records.specs.declared.layer.Kind.{Kind}
 use Rattle.records.specs.declared.layer.Layer.{Layer}
-use Rattle.records.specs.declared.layer.Read.the-variants.{Found}
-use Rattle.records.specs.declared.mark.Mark.{Mark}
-use Rattle.records.specs.declared.mark.Mark.the-variants.{CV, FU, AD, Other}
+use Rattle.records.specs.declared.reader.Read.the-variants.{Found}
 use Rattle.fields.proofs.Tests.{first-both}
 use Rattle.network.specs.Network.{blankLayer, layerOf, tensorOf}
 use Rattle.network.specs.Head.{pictureAt, headMark, headFault}
-use Rattle.network.specs.Decode.{readMarked, readLayer, pushed, runOf, startOf, endFault, decodeOf}
+use Rattle.network.specs.Decode.{readLayer, pushed, runOf, startOf, endFault, decodeOf}
 use Rattle.network.specs.Replace.{replaceFault}
 use Rattle.network.specs.declared.net.Network.{Network}
 use Rattle.network.specs.declared.file.Progress.{Progress}
@@ -26,8 +25,8 @@ use Rattle.network.specs.declared.file.Decoded.{Decoded}
 use Rattle.network.proofs.Runs.{start-fine}
 use Rattle.network.proofs.Taken.{taken}
 use Rattle.network.proofs.Rewritten.{rewritten, rewritten-length, byte-before, byte-within, byte-after, Same}
-use Rattle.network.proofs.Kindred.{kindFrom, layerAs, Fit, fit-kindred, replace-fit}
-use Rattle.network.proofs.Passing.{found-as, found-again, found-same}
+use Rattle.network.proofs.Kindred.{kindred-sums, layerAs, Fit, fit-kindred, replace-fit}
+use Rattle.network.proofs.Passing.{found-at, found-read, found-again, found-same}
 use Rattle.network.proofs.Steps.{Steps, here, more, run-steps, steps-run, kept-count, next-layer, later-start, atEnd, taken-end, end-taken}
 
 -- the network with other parameters at layer k
@@ -72,12 +71,7 @@ module _ (n : Network) (k : ℕ) (κ : Kind) where
   -- so a record is read as before
   with-read : (s : List ℕ) (at m : ℕ) → readLayer s at (withKind n k κ) m ≡ readLayer s at n m
   unfolding readLayer
-  with-read s at m = cc (by-mark (markAt s at)) where
-    by-mark : (w : Mark) → readMarked w s at (withKind n k κ) m ≡ readMarked w s at n m
-    by-mark CV = cc (with-tensor m)
-    by-mark FU = cc (with-tensor m)
-    by-mark AD = cc (with-tensor m, with-tensor (min (byteAt s (at + 2)) m))
-    by-mark Other = refl
+  with-read s at m = cc (with-tensor m, with-tensor (min (otherOf (kindAt (markAt s at) s at) m) m))
 
 module _ (p : Progress) (l : Layer) (next k : ℕ) (κ : Kind) where
   -- a layer found after layer k, which has other parameters
@@ -107,7 +101,7 @@ module _ (s t : List ℕ) (long : length t ≡ length s) (from : ℕ) (same : (i
   unfolding pushed
   steps-after here h b = here
   steps-after (more {n} {p} {q} l next e r) h b =
-      let f = found-as s (p .at) (p .network) (p .made) l next e in
+      let f = found-at s (p .at) (p .network) (p .made) l next e in
       more l next
       (with-read (p .network) k κ t (p .at) (p .made)
       ∙ found-same s t long (p .at) (p .network) (p .made) l next e (λ i j. same (p .at + i) (omega arith)))
@@ -120,7 +114,7 @@ record Written (s t : List ℕ) (y : Layer) (r : List ℕ) : Type 0 where
   before : (i : ℕ) → i < y .start → byteAt t i ≡ byteAt s i
   within : Same t (y .start) r 0 (recordLen y)
   after : (i : ℕ) → y .start + recordLen y ≤ i → byteAt t i ≡ byteAt s i
-  fit : Fit s (y .start) r 0 (y .kind)
+  fit : Fit s y r 0
 
 module _ (s t r : List ℕ) (k : ℕ) where
   -- layer k is the next one
@@ -131,16 +125,16 @@ module _ (s t r : List ℕ) (k : ℕ) where
       p .made ≡ k →
       k < length (p .network .layers) →
       Written s t l r →
-      Steps t (suc n) p (withKindAt q k (kindFrom (l .kind) r))
+      Steps t (suc n) p (withKindAt q k (kindAt (l .mark) r 0))
   unfolding pushed
   steps-at {n} p {q} l next e w x h b =
-      let f = found-as s (p .at) (p .network) (p .made) l next e in
-      let κ = kindFrom (l .kind) r in
+      let f = found-at s (p .at) (p .network) (p .made) l next e in
+      let κ = kindAt (l .mark) r 0 in
       let start : l .start ≡ p .at = ap (λ (y : Layer). y .start) (f .layer) in
-      let fit = subst (λ (j : ℕ). Fit s j r 0 (l .kind)) start (b .fit) in
       let within = subst (λ (j : ℕ). Same t j r 0 (recordLen l)) start (b .within) in
-      let sums = fit-kindred s (p .at) r 0 (l .kind) (f .passes .read) fit .sums in
-      more (layerAs l κ) next (found-again s t (b .long) (p .at) (p .network) (p .made) r 0 l next e fit within)
+      let like = fit-kindred s l r 0 (found-read s (p .at) (p .network) (p .made) l next f) (b .fit) in
+      let sums = kindred-sums (l .kind) κ like in
+      more (layerAs l κ) next (found-again s t (b .long) (p .at) (p .network) (p .made) r 0 l next e (b .fit) within)
       (subst⁻¹ (λ (z : Progress). Steps t n z (withKindAt q k κ)) (pushed-at p l next k κ x h sums)
       (steps-after s t (b .long) next (λ i j. b .after i (omega (arith, f .next-is))) k κ w (omega arith) (omega arith)))
 
@@ -153,17 +147,17 @@ module _ (s t r : List ℕ) (k : ℕ) where
       p .made + i ≡ k →
       k < length (p .network .layers) →
       Written s t (layerOf (q .network) k) r →
-      Steps t n p (withKindAt q k (kindFrom (layerOf (q .network) k .kind) r))
+      Steps t n p (withKindAt q k (kindAt (layerOf (q .network) k .mark) r 0))
   unfolding pushed
   steps-again here i b x h w = absurd (omega arith)
   steps-again (more {n} {p} {q} l next e a) zero b x h w =
       let y : p .made ≡ k = omega arith in
       let z = subst (λ (j : ℕ). layerOf (q .network) j ≡ l) y (next-layer p l next a (omega arith)) in
-      subst⁻¹ (λ (v : Layer). Steps t (suc n) p (withKindAt q k (kindFrom (v .kind) r))) z
+      subst⁻¹ (λ (v : Layer). Steps t (suc n) p (withKindAt q k (kindAt (v .mark) r 0))) z
       (steps-at p l next e a y h (subst (λ (v : Layer). Written s t v r) z w))
   steps-again (more {n} {p} {q} l next e a) (suc i) b x h w =
       let g = subst⁻¹ (λ (j : ℕ). k < j) (length-set (p .network .layers) (p .made) l) h in
-      let f = found-as s (p .at) (p .network) (p .made) l next e in
+      let f = found-at s (p .at) (p .network) (p .made) l next e in
       let start = later-start a k i (omega arith) (omega arith) g in
       more l next
       (found-same s t (w .long) (p .at) (p .network) (p .made) l next e (λ j c. w .before (p .at + j) (omega (arith, f .next-is))))
@@ -200,10 +194,10 @@ written-decodes :
     decodeOf s .refusal ≡ 0 →
     k < atEnd s .network .count →
     Written s t (layerOf (atEnd s .network) k) r →
-    decodeOf t ≡ record { refusal = 0; network = withKind (atEnd s .network) k (kindFrom (layerOf (atEnd s .network) k .kind) r) }
+    decodeOf t ≡ record { refusal = 0; network = withKind (atEnd s .network) k (kindAt (layerOf (atEnd s .network) k .mark) r 0) }
 written-decodes s t k r good few w =
     let p = startOf s in
-    let κ = kindFrom (layerOf (atEnd s .network) k .kind) r in
+    let κ = kindAt (layerOf (atEnd s .network) k .mark) r 0 in
     let end = taken-end s good in
     let run = run-steps s (p .network .count) p (first-both _ _ (end .1) .0) in
     let ready = start-fine s (run .0) in
@@ -225,7 +219,7 @@ pub replaced-decodes :
     k < decodeOf s .network .count →
     replaceFault s (layerOf (decodeOf s .network) k) r ≡ 0 →
     decodeOf (rewritten s (layerOf (decodeOf s .network) k .start) r)
-    ≡ record { refusal = 0; network = withKind (decodeOf s .network) k (kindFrom (layerOf (decodeOf s .network) k .kind) r) }
+    ≡ record { refusal = 0; network = withKind (decodeOf s .network) k (kindAt (layerOf (decodeOf s .network) k .mark) r 0) }
 replaced-decodes s k r good few fault =
     let y = layerOf (decodeOf s .network) k in
     let t = rewritten s (y .start) r in
@@ -234,7 +228,7 @@ replaced-decodes s k r good few fault =
     let f = replace-fit s y r fault in
     let h : y .start + length r ≤ length s = omega (arith, taken s good .layers k few .record-in, f .0) in
     subst⁻¹ (λ (n : Network).
-    k < n .count → Written s t (layerOf n k) r → decodeOf t ≡ record { refusal = 0; network = withKind n k (kindFrom (layerOf n k .kind) r) }) e
+    k < n .count → Written s t (layerOf n k) r → decodeOf t ≡ record { refusal = 0; network = withKind n k (kindAt (layerOf n k .mark) r 0) }) e
     (written-decodes s t k r good) few
     (record {
       long = rewritten-length s (y .start) r h;

@@ -11,8 +11,8 @@ use Rattle.fields.specs.Faults.{first}
 use Rattle.fields.specs.Bytes.{byteAt}
 use Rattle.fields.specs.Shape.{bytesOf, GoodShape}
 use Rattle.records.specs.declared.layer.Layer.{Layer}
-use Rattle.records.specs.declared.layer.Read.{Read}
-use Rattle.records.specs.declared.layer.Read.the-variants.{Refused, Found}
+use Rattle.records.specs.declared.reader.Read.{Read}
+use Rattle.records.specs.declared.reader.Read.the-variants.{Refused, Found}
 use Rattle.fields.proofs.Tests.{first-both, within-in, cut-there}
 use Rattle.fields.proofs.Shapes.{size-in, good-shape}
 use Rattle.records.proofs.Answers.{Answered}
@@ -186,10 +186,11 @@ pub start-started :
 unfolding startOf
 start-started s f e h = ap (λ (k : ℕ). started k (pictureAt s) (byteAt s 7) (byteAt s 8)) (sym h ∙ e)
 
-pub fine-next : (s : List ℕ) (left : ℕ) (p : Progress) → 0 < left → Fine s left p → CanStep s p
-fine-next s left p h f e =
+pub fine-next : (s : List ℕ) (left : ℕ) (p : Progress) → length s ≤ 65536 → 0 < left → Fine s left p → CanStep s p
+fine-next s left p short h f e =
     let r = f e in
     record {
+      file-few = short;
       at-in = r .sofar .at-in;
       made-few = omega arith;
       area-few = r .sofar .area-few;

@@ -11,13 +11,13 @@ use lib.ListN.{length, length-set}
 use lib.Seq.{getD-set-same, getD-set-other}
 use Rattle.fields.specs.Faults.{first}
 use Rattle.records.specs.declared.layer.Layer.{Layer}
-use Rattle.records.specs.declared.layer.Read.{Read}
-use Rattle.records.specs.declared.layer.Read.the-variants.{Refused, Found}
+use Rattle.records.specs.declared.reader.Read.{Read}
+use Rattle.records.specs.declared.reader.Read.the-variants.{Refused, Found}
 use Rattle.records.proofs.Answers.{Answered}
 use Rattle.network.specs.Network.{blankLayer, layerOf}
 use Rattle.network.specs.Decode.{readLayer, startOf, stopped, pushed, stepRead, stepFrom, stepOf, runOf, endFault, decodedAs, ranOf, decodeOf}
 use Rattle.network.specs.declared.file.Progress.{Progress}
-use Rattle.network.proofs.Passing.{FoundAs, read-passes, found-as}
+use Rattle.network.proofs.Passing.{FoundAt, read-found, found-at}
 use Rattle.network.proofs.Runs.{step-next, loop-ends}
 
 -- n layers are found, from p on, and lead to q
@@ -37,7 +37,7 @@ run-steps s (suc n) p h = from (p .refusal) refl (run-steps s n (stepOf s p) h) 
   after :
       (r : Read) →
       readLayer s (p .at) (p .network) (p .made) ≡ r →
-      Answered (FoundAs s (p .at) (p .network) (p .made)) r →
+      Answered (FoundAt s (p .at) (p .network) (p .made)) r →
       (q : Progress) →
       (stepRead p r .refusal ≡ 0) × Steps s n (stepRead p r) q →
       Steps s (suc n) p q
@@ -49,7 +49,7 @@ run-steps s (suc n) p h = from (p .refusal) refl (run-steps s n (stepOf s p) h) 
       p .refusal ≡ k →
       (stepFrom k s p .refusal ≡ 0) × Steps s n (stepFrom k s p) (runOf s n (stepOf s p)) →
       (p .refusal ≡ 0) × Steps s (suc n) p (runOf s n (stepOf s p))
-  from zero e b = (e, after (readLayer s (p .at) (p .network) (p .made)) refl (read-passes s (p .at) (p .network) (p .made)) _ b)
+  from zero e b = (e, after (readLayer s (p .at) (p .network) (p .made)) refl (read-found s (p .at) (p .network) (p .made)) _ b)
   from (suc k) e b = absurd (omega arith)
 
 -- and such steps are a run
@@ -99,11 +99,11 @@ later-start here k i b x h = absurd (omega arith)
 later-start {s} (more {p = p} {q = q} l next e r) k zero b x h =
     let y : p .made ≡ k = omega arith in
     let z = subst (λ (j : ℕ). layerOf (q .network) j ≡ l) y (next-layer p l next r (omega arith)) in
-    omega (arith, ap (λ (a : Layer). a .start) (z ∙ found-as s _ _ _ l next e .layer))
+    omega (arith, ap (λ (a : Layer). a .start) (z ∙ found-at s _ _ _ l next e .layer))
 later-start {s} (more {p = p} l next e r) k (suc i) b x h =
     omega (
       arith,
-      found-as s _ _ _ l next e .next-is,
+      found-at s _ _ _ l next e .next-is,
       later-start r k i (omega arith) (omega arith) (subst⁻¹ (λ (j : ℕ). k < j) (length-set (p .network .layers) (p .made) l) h),
     )
 

@@ -6,41 +6,40 @@ use mathlib.Core.Bool.{cond}
 use mathlib.Core.List.{List, [], _∷_}
 use lib.Dec.{leb, eqb}
 use lib.ListN.{length, set}
-use Rattle.fields.specs.Faults.{unless, firstFault, cutFault}
+use Rattle.fields.specs.Faults.{unless, firstFault}
 use Rattle.fields.specs.Bytes.{byteAt}
-use Rattle.records.specs.Mark.{markAt, fixedLen}
 use Rattle.fields.specs.Shape.{bytesOf, GoodShape}
-use Rattle.records.specs.Layer.{sumsOf}
-use Rattle.records.specs.Conv.{readConv}
-use Rattle.records.specs.Full.{readFull}
-use Rattle.records.specs.Add.{readAdd}
 use Rattle.fields.specs.declared.shape.Shape.{Shape}
+use Rattle.records.specs.Mark.{markAt}
+use Rattle.records.specs.Layer.{sumsOf, otherOf}
+use Rattle.records.specs.Reader.{kindAt, readAs}
+use Rattle.records.specs.declared.layer.Kind.{Kind}
 use Rattle.records.specs.declared.layer.Layer.{Layer}
-use Rattle.records.specs.declared.layer.Read.{Read}
-use Rattle.records.specs.declared.layer.Read.the-variants.{Refused, Found}
 use Rattle.records.specs.declared.mark.Mark.{Mark}
-use Rattle.records.specs.declared.mark.Mark.the-variants.{CV, FU, AD, Other}
+use Rattle.records.specs.declared.reader.Before.{Before}
+use Rattle.records.specs.declared.reader.Read.{Read}
+use Rattle.records.specs.declared.reader.Read.the-variants.{Refused, Found}
 use Rattle.network.specs.Network.{blankShape, emptyNetwork, tensorOf}
 use Rattle.network.specs.Head.{pictureAt, headFault}
 use Rattle.network.specs.declared.net.Network.{Network}
 use Rattle.network.specs.declared.file.Progress.{Progress}
 use Rattle.network.specs.declared.file.Decoded.{Decoded}
 
--- the record of layer made + 1, which reads tensor made, by its mark. An add's other tensor is refused by its number where it is not there
--- yet, so it does not matter which shape stands for it then
+-- what stands before the record of layer made + 1, which reads tensor made
+abbrev pub beforeOf : Network → ℕ → Before
+beforeOf n made = record { input = tensorOf n made; made = made; area = n .area; store = n .store }
+
+-- the shape of the other tensor that it reads. One that is not there yet is refused by its number, so it does not matter which shape stands
+-- for it then
+abbrev pub otherShape : Network → Kind → ℕ → Shape
+otherShape n k made = tensorOf n (min (otherOf k made) made)
+
+-- its record, by its mark
 abbrev pub readMarked : Mark → List ℕ → ℕ → Network → ℕ → Read
-readMarked CV s at n made = readConv s at (tensorOf n made) (n .area) (n .store)
-readMarked FU s at n made = readFull s at (tensorOf n made) (n .area) (n .store)
-readMarked AD s at n made = readAdd s at (tensorOf n made) (n .area) (n .store) made (tensorOf n (min (byteAt s (at + 2)) made))
-readMarked Other s at n made = Refused 1
+readMarked m s at n made = readAs m (kindAt m s at) s at (beforeOf n made) (otherShape n (kindAt m s at) made)
 
-abbrev pub unlessCut : ℕ → Read → Read
-unlessCut zero r = r
-unlessCut (suc n) r = Refused (suc n)
-
--- first the mark and the fixed part are present
 unfoldable pub readLayer : List ℕ → ℕ → Network → ℕ → Read
-readLayer s at n made = unlessCut (cutFault s at (fixedLen (markAt s at))) (readMarked (markAt s at) s at n made)
+readLayer s at n made = readMarked (markAt s at) s at n made
 
 -- a refusal: the number, and no network
 unfoldable pub stopped : ℕ → Progress
@@ -106,6 +105,7 @@ decodeOf s = cond (leb (length s) 65536) (ranOf s (startOf s)) (decodedAs 3 (sto
 
 -- what the next record's reader needs of a file read so far
 pub record Next (s : List ℕ) (p : Progress) : Type 0 where
+  pub file-few : length s ≤ 65536
   pub at-in : p .at ≤ length s
   pub made-few : p .made < 16
   pub area-few : p .network .area ≤ 65536

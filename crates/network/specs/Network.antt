@@ -3,6 +3,8 @@
 use Prim.Native.Nat.{ℕ, zero, suc}
 use lib.ListN.{getD, replicate}
 use Rattle.fields.specs.declared.shape.Shape.{Shape}
+use Rattle.records.specs.Reader.{blankConv}
+use Rattle.records.specs.declared.mark.Mark.the-variants.{CV}
 use Rattle.records.specs.declared.layer.Kind.{Kind}
 use Rattle.records.specs.declared.layer.Kind.the-variants.{Convolution, Fully, Addition}
 use Rattle.records.specs.declared.layer.Layer.{Layer}
@@ -11,23 +13,13 @@ use Rattle.network.specs.declared.net.Network.{Network}
 abbrev pub blankShape : Shape
 blankShape = record { rows = 0; columns = 0; channels = 0 }
 
--- zero throughout, and of the first kind: what a list of layers has past its end
+-- zero throughout, and of the first mark and kind: what a list of layers has past its end
 abbrev pub blankLayer : Layer
 blankLayer = record {
+  mark = CV;
   input = blankShape;
   output = blankShape;
-  kind = Convolution (record {
-    filters = 0;
-    height = 0;
-    width = 0;
-    stride = 0;
-    padding = 0;
-    v = 0;
-    zero = 0;
-    low = 0;
-    high = 0;
-    scale = record { multiplier = 0; shift = 0 };
-  });
+  kind = Convolution blankConv;
   start = 0;
   place = 0;
   sums = 0;

@@ -7,49 +7,25 @@ use lib.IntN.{natAbs}
 use lib.ListN.{length}
 use Rattle.fields.specs.Bytes.{byteAt, i32At}
 use Rattle.fields.specs.Shape.{bytesOf, GoodShape}
-use Rattle.records.specs.Layer.{sumsOf, biasesAt, recordLen}
-use Rattle.records.specs.Conv.{convAt, convOutput, ConvOk}
-use Rattle.records.specs.Full.{fullAt, fullOutput, FullOk}
-use Rattle.records.specs.Add.{addAt, AddOk}
-use Rattle.records.specs.declared.conv.Conv.{Conv}
-use Rattle.records.specs.declared.full.Full.{Full}
-use Rattle.records.specs.declared.add.Add.{Add}
-use Rattle.records.specs.declared.layer.Kind.{Kind}
-use Rattle.records.specs.declared.layer.Kind.the-variants.{Convolution, Fully, Addition}
+use Rattle.records.specs.Layer.{sumsOf, outputShape, otherOf, KindOk, KindFits, biasesAt, recordLen}
+use Rattle.records.specs.Reader.{kindAt}
 use Rattle.records.specs.declared.layer.Layer.{Layer}
 use Rattle.network.specs.Network.{layerOf, tensorOf, placeOf}
 use Rattle.network.specs.declared.net.Network.{Network}
 
--- a convolution: its record's fields, in range, and each padded side at least the kernel's
-pub record ConvTaken (s : List ℕ) (y : Layer) (c : Conv) : Type 0 where
-  pub read : c ≡ convAt s (y .start)
-  pub ok : ConvOk c
-  pub rows-fit : c .height ≤ y .input .rows + 2 * c .padding
-  pub columns-fit : c .width ≤ y .input .columns + 2 * c .padding
-  pub output : y .output ≡ convOutput (y .input) c
-
-pub record FullTaken (s : List ℕ) (y : Layer) (f : Full) : Type 0 where
-  pub read : f ≡ fullAt s (y .start)
-  pub ok : FullOk f
-  pub output : y .output ≡ fullOutput f
-
--- an add: the other tensor is there and of the same shape
-pub record AddTaken (s : List ℕ) (n : Network) (m : ℕ) (y : Layer) (a : Add) : Type 0 where
-  pub read : a ≡ addAt s (y .start)
-  pub ok : AddOk a
-  pub other-there : a .other ≤ m
-  pub other-shape : tensorOf n (a .other) ≡ y .input
-  pub output : y .output ≡ y .input
-
-abbrev pub KindTaken : List ℕ → Network → ℕ → Layer → Kind → Type 0
-KindTaken s n m y (Convolution c) = ConvTaken s y c
-KindTaken s n m y (Fully f) = FullTaken s y f
-KindTaken s n m y (Addition a) = AddTaken s n m y a
+-- its parameters: read from its record, in their ranges, and suited by its inputs, of which the other is there and of the same shape
+pub record KindTaken (s : List ℕ) (n : Network) (m : ℕ) (y : Layer) : Type 0 where
+  pub read : y .kind ≡ kindAt (y .mark) s (y .start)
+  pub ok : KindOk (y .kind)
+  pub fits : KindFits (y .kind) (y .input)
+  pub output : y .output ≡ outputShape (y .kind) (y .input)
+  pub other-there : otherOf (y .kind) m ≤ m
+  pub other-shape : tensorOf n (otherOf (y .kind) m) ≡ y .input
 
 -- layer m, of the network n that the file s holds
 pub record LayerTaken (s : List ℕ) (n : Network) (m : ℕ) (y : Layer) : Type 0 where
   pub input : y .input ≡ tensorOf n m
-  pub kind : KindTaken s n m y (y .kind)
+  pub kind : KindTaken s n m y
   pub record-in : y .start + recordLen y ≤ length s
   pub biases : (f : ℕ) → f < sumsOf (y .kind) → natAbs (i32At s (biasesAt y + 4 * f)) ≤ 2 ^ 30
   -- the tensors, and the sums, stand one after another

@@ -15,15 +15,16 @@ use crate::net::tensor;
 use fields::faults::cut_fault;
 use fields::faults::first_of;
 use fields::shape::bytes_of;
-use records::add::read_add;
-use records::conv::read_conv;
-use records::full::read_full;
 use records::layer::Layer;
-use records::layer::Read;
+use records::layer::other_of;
 use records::layer::sums_of;
-use records::mark::Mark;
 use records::mark::fixed_len;
 use records::mark::mark_at;
+use records::reader::Before;
+use records::reader::Read;
+use records::reader::fit_record;
+use records::reader::kind_at;
+use records::reader::own_fault;
 
 // A file read so far: the refusal number, or 0 with where the next record begins, how many layers there are, and the
 // network of these.
@@ -48,7 +49,7 @@ fn smaller(a: usize, b: usize) -> usize
 
 // The record of layer made + 1, which reads tensor made.
 fn read_layer(s: &[u8], at: usize, n: Network, made: usize) -> Read
-    requires { ⌜ at ≤ length (now s) ⌝ }
+    requires { ⌜ (at ≤ length (now s)) × (length (now s) ≤ 65536) ⌝ }
     requires { ⌜ (made < 16) × (n .area ≤ 65536) ⌝ }
     requires { ⌜ GoodShape (tensorOf n made) ⌝ }
     ensures { λ r. ⌜ r ≡ readLayer (now (s .entry)) at n made ⌝ }
@@ -58,16 +59,19 @@ fn read_layer(s: &[u8], at: usize, n: Network, made: usize) -> Read
     if cut != 0 {
         return Read::Refused(cut);
     }
-    let input = tensor(n, made);
-    match mark {
-        Mark::CV => read_conv(s, at, input, n.area, n.store),
-        Mark::FU => read_full(s, at, input, n.area, n.store),
-        Mark::AD => {
-            let other = tensor(n, smaller(s[at + 2] as usize, made));
-            read_add(s, at, input, n.area, n.store, made, other)
-        }
-        Mark::Other => Read::Refused(1),
+    let own = own_fault(mark, s, at);
+    if own != 0 {
+        return Read::Refused(own);
     }
+    let kind = kind_at(mark, s, at);
+    let other = tensor(n, smaller(other_of(kind, made), made));
+    let b = Before {
+        input: tensor(n, made),
+        made,
+        area: n.area,
+        store: n.store,
+    };
+    fit_record(mark, kind, s, at, b, other)
 }
 
 fn stopped_with(n: u8) -> Progress

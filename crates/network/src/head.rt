@@ -6,10 +6,10 @@ ghost use Rattle.fields.specs.Shape.{SmallShape};
 ghost use Rattle.network.specs.Head.{headMark, pictureAt, headFault};
 use fields::bytes::u16_at;
 use fields::faults::cut_fault;
-use fields::faults::filters_fault;
 use fields::faults::first_of;
 use fields::faults::layers_fault;
-use fields::faults::outputs_fault;
+use fields::faults::one_to_64;
+use fields::faults::one_to_256;
 use fields::faults::spare_fault;
 use fields::shape::Shape;
 use fields::shape::size_fault;
@@ -42,8 +42,8 @@ pub fn head_fault(s: &[u8]) -> u8
         return cut;
     }
     let size = first_of(layers_fault(s[8]), size_fault(picture_at(s), 0));
-    let channels = first_of(filters_fault(s[6]), size);
-    let columns = first_of(outputs_fault(u16_at(s, 4)), channels);
-    let rows = first_of(outputs_fault(u16_at(s, 2)), columns);
+    let channels = first_of(one_to_64(s[6]), size);
+    let columns = first_of(one_to_256(u16_at(s, 4)), channels);
+    let rows = first_of(one_to_256(u16_at(s, 2)), columns);
     first_of(mark_fault(s), first_of(spare_fault(s[9]), rows))
 }

@@ -3,12 +3,10 @@ ghost use mathlib.Core.Path.{_≡_};
 ghost use Prim.Native.Nat.{_≤_, _<_};
 ghost use Rattle.network.specs.Network.{blankShape, blankLayer, emptyNetwork, tensorOf, placeOf, zeroOf, layerOf};
 use fields::shape::Shape;
-use records::add::Add;
-use records::conv::Conv;
-use records::full::Full;
 use records::layer::Kind;
 use records::layer::Layer;
-use records::layer::Scale;
+use records::mark::Mark;
+use records::reader::blank_conv;
 
 // The picture's shape and zero-point, the number of layers, the layers, and the bytes of all tensors and the number of
 // all stored sums: what the work area and the sum store must hold.
@@ -29,25 +27,11 @@ pub fn blank_layer() -> Layer
         columns: 0,
         channels: 0,
     };
-    let c = Conv {
-        filters: 0,
-        height: 0,
-        width: 0,
-        stride: 0,
-        padding: 0,
-        v: 0,
-        zero: 0,
-        low: 0,
-        high: 0,
-        scale: Scale {
-            multiplier: 0,
-            shift: 0,
-        },
-    };
     Layer {
+        mark: Mark::CV,
         input: shape,
         output: shape,
-        kind: Kind::Convolution(c),
+        kind: Kind::Convolution(blank_conv()),
         start: 0,
         place: 0,
         sums: 0,

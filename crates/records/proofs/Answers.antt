@@ -58,6 +58,14 @@ unfolding answer
 answer-ok P zero l next h = h refl
 answer-ok P (suc f) l next h = omega arith
 
+pub answered-map :
+    (P Q : Layer → ℕ → Type 0) (r : Read) →
+    ((l : Layer) (next : ℕ) → P l next → Q l next) →
+    Answered P r →
+    Answered Q r
+answered-map P Q (Refused n) f h = h
+answered-map P Q (Found l next) f h = f l next h
+
 pub answered-found :
     (P : Layer → ℕ → Type 0) (r : Read) (l : Layer) (next : ℕ) →
     Found l next ≡ r →

@@ -10,11 +10,10 @@ use Rattle.fields.specs.declared.shape.Shape.{Shape}
 use Rattle.fields.proofs.Tests.{first-both, unless-none, and-both, within-in, clamp-in}
 use Rattle.fields.proofs.Shapes.{good-shape, same-equal}
 use Rattle.records.specs.Mark.{fixedLen}
-use Rattle.records.specs.Frame.{Fits}
 use Rattle.records.specs.Conv.{ConvOk, convAt, convFields}
 use Rattle.records.specs.Full.{FullOk, fullAt, fullFields}
 use Rattle.records.specs.Add.{AddOk, addAt, addFields}
-use Rattle.records.specs.Layer.{sumsOf, outputShape, KindOk}
+use Rattle.records.specs.Layer.{sumsOf, outputShape, KindOk, KindFits}
 use Rattle.records.specs.Reader.{kindAt, ownFault, suitFault}
 use Rattle.records.specs.declared.conv.Conv.{Conv}
 use Rattle.records.specs.declared.full.Full.{Full}
@@ -101,10 +100,12 @@ output-good (Convolution c) i ok g b = frame-good (c .frame) i (c .filters) (ok 
 output-good (Fully f) i ok g b = good-shape _ (omega arith) (omega arith) (ok .outputs-some) (ok .outputs-few) b
 output-good (Addition a) i ok g b = g
 
--- a convolution's frame fits the input that suits it
-pub conv-suits : (c : Conv) (b : Before) (other : Shape) → suitFault (Convolution c) b other ≡ 0 → Fits (c .frame) (b .input)
+-- a frame fits the input that suits the layer
+pub suits-fit : (k : Kind) (b : Before) (other : Shape) → suitFault k b other ≡ 0 → KindFits k (b .input)
 unfolding suitFault
-conv-suits c b other h = frame-fits (c .frame) (b .input) (unless-none _ 2 h)
+suits-fit (Convolution c) b other h = frame-fits (c .frame) (b .input) (unless-none _ 2 h)
+suits-fit (Fully f) b other h = tt
+suits-fit (Addition a) b other h = tt
 
 -- an add's other tensor is there, and of the shape of the input that suits it
 pub add-suits : (a : Add) (b : Before) (other : Shape) → suitFault (Addition a) b other ≡ 0 → (a .other ≤ b .made) × (other ≡ b .input)

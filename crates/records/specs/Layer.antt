@@ -5,7 +5,7 @@ use Rattle.fields.specs.Shape.{bytesOf}
 use Rattle.fields.specs.Stored.{storedLen}
 use Rattle.fields.specs.declared.shape.Shape.{Shape}
 use Rattle.records.specs.Mark.{fixedLen}
-use Rattle.records.specs.Frame.{frameOutput}
+use Rattle.records.specs.Frame.{frameOutput, Fits}
 use Rattle.records.specs.Conv.{ConvOk}
 use Rattle.records.specs.Full.{fullOutput, FullOk}
 use Rattle.records.specs.Add.{AddOk}
@@ -42,6 +42,12 @@ abbrev pub KindOk : Kind → Type 0
 KindOk (Convolution c) = ConvOk c
 KindOk (Fully f) = FullOk f
 KindOk (Addition a) = AddOk a
+
+-- the frame of a windowed layer fits its input
+abbrev pub KindFits : Kind → Shape → Type 0
+KindFits (Convolution c) i = Fits (c .frame) i
+KindFits (Fully f) i = Unit {0}
+KindFits (Addition a) i = Unit {0}
 
 -- where in the file the layer's biases begin, and its weights
 abbrev pub biasesAt : Layer → ℕ

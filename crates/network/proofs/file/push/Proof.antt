@@ -28,7 +28,7 @@ add-t9 c = search needs
 
 returns : tie.Need-returns
 unfolding pushed
-returns c = simp (c .before .bytes-of .ensures, c .sums-of .ensures)
+returns c = simp (c .before .bytes-of .ensures, c .sums-of .ensures .0)
 
 pub push-spec : {M : Type 1} → statement M
 push-spec =

@@ -26,7 +26,7 @@ push-requires : tie.Need-push-requires
 push-requires c κs =
     let w = c .before .before .before in
     let r = w .before .before .before .before .before .pre (w .before .before .if1 .left) in
-    let t = found-grown _ _ _ _ _ _ (r .at-in) (r .last-good) (sym (c .before .l .given .1) ∙ w .read-layer .ensures) in
+    let t = found-grown _ _ _ _ (r .at-in) (r .last-good) _ _ (sym (c .before .l .given .1) ∙ w .read-layer .ensures) in
     search needs
 
 returns-2 : tie.Need-returns-2

@@ -36,11 +36,11 @@ size-fault-requires c κs = search needs
 first-of-requires : tie.Need-first-of-requires
 first-of-requires c κs = search needs
 
-shared-slice-read-filters-fault : tie.Need-shared-slice-read-filters-fault
-shared-slice-read-filters-fault c = omega (arith, there (c .before .before .before .before .before .before))
+shared-slice-read-one-to-64 : tie.Need-shared-slice-read-one-to-64
+shared-slice-read-one-to-64 c = omega (arith, there (c .before .before .before .before .before .before))
 
-filters-fault-requires : tie.Need-filters-fault-requires
-filters-fault-requires c κs = search needs
+one-to-64-requires : tie.Need-one-to-64-requires
+one-to-64-requires c κs = search needs
 
 first-of-requires-2 : tie.Need-first-of-requires-2
 first-of-requires-2 c κs = search needs
@@ -48,8 +48,8 @@ first-of-requires-2 c κs = search needs
 u16-at-requires : tie.Need-u16-at-requires
 u16-at-requires c κs = omega (arith, there (c .before .before .before .before .before .before .before .before))
 
-outputs-fault-requires : tie.Need-outputs-fault-requires
-outputs-fault-requires c κs = search needs
+one-to-256-requires : tie.Need-one-to-256-requires
+one-to-256-requires c κs = search needs
 
 first-of-requires-3 : tie.Need-first-of-requires-3
 first-of-requires-3 c κs = search needs
@@ -57,8 +57,8 @@ first-of-requires-3 c κs = search needs
 u16-at-requires-2 : tie.Need-u16-at-requires-2
 u16-at-requires-2 c κs = omega (arith, there (c .before .before .before .before .before .before .before .before .before .before .before))
 
-outputs-fault-requires-2 : tie.Need-outputs-fault-requires-2
-outputs-fault-requires-2 c κs = search needs
+one-to-256-requires-2 : tie.Need-one-to-256-requires-2
+one-to-256-requires-2 c κs = search needs
 
 first-of-requires-4 : tie.Need-first-of-requires-4
 first-of-requires-4 c κs = search needs
@@ -91,9 +91,9 @@ returns-2 c =
       w .first-of .ensures,
       c .before .before .before .before .mark-fault .ensures,
       c .before .before .spare-fault .ensures,
-      c .before .before .before .before .before .before .before .before .before .outputs-fault .ensures,
-      c .before .before .before .before .before .before .outputs-fault2 .ensures,
-      c .before .before .before .before .before .before .before .before .before .before .before .before .filters-fault .ensures,
+      c .before .before .before .before .before .before .before .before .before .one-to-256 .ensures,
+      c .before .before .before .before .before .before .one-to-2562 .ensures,
+      c .before .before .before .before .before .before .before .before .before .before .before .before .one-to-64 .ensures,
       w .before .before .before .layers-fault .ensures,
       w .before .size-fault .ensures,
       w .before .before .picture-at .ensures .0,
@@ -112,14 +112,14 @@ head-fault-spec =
     picture-at-requires
     size-fault-requires
     first-of-requires
-    shared-slice-read-filters-fault
-    filters-fault-requires
+    shared-slice-read-one-to-64
+    one-to-64-requires
     first-of-requires-2
     u16-at-requires
-    outputs-fault-requires
+    one-to-256-requires
     first-of-requires-3
     u16-at-requires-2
-    outputs-fault-requires-2
+    one-to-256-requires-2
     first-of-requires-4
     mark-fault-requires
     shared-slice-read-spare-fault

@@ -1,7 +1,7 @@
 -- `records::reader::output_shape` meets its contract.
 -- Assumes nothing.
 use Rattle.records.specs.Conv.{ConvOk}
-use Rattle.records.proofs.Ranges.{conv-suits}
+use Rattle.records.proofs.Ranges.{suits-fit}
 use borrow.Author.Needs.{needs}
 use Rattle.records.proofs.reader.output_shape.Statement.{statement}
 use Rattle.records.proofs.reader.output_shape.Tie as tie
@@ -12,7 +12,7 @@ enum-known-kind c = search needs
 frame-output-requires : tie.Need-frame-output-requires
 frame-output-requires c κs =
     let ok : ConvOk (c .before .before .kind .given .0 .0) = rw (c .before .before .kind .given .1) at (c .before .before .before .before .before .pre .0) in
-    (ok .frame, (c .before .before .before .before .before .pre .1 .0, conv-suits (c .before .before .kind .given .0 .0) (c .before .before .before .before .before .args .b) (c .before .before .before .before .before .args .other) (rw (c .before .before .kind .given .1) at (c .before .before .before .before .before .pre .1 .1))))
+    (ok .frame, (c .before .before .before .before .before .pre .1 .0, suits-fit _ (c .before .before .before .before .before .args .b) (c .before .before .before .before .before .args .other) (rw (c .before .before .kind .given .1) at (c .before .before .before .before .before .pre .1 .1))))
 
 enum-known-kind-2 : tie.Need-enum-known-kind-2
 enum-known-kind-2 c = search needs
