@@ -5,15 +5,15 @@ use mathlib.Core.Path.{_≡_, refl, sym, _∙_, ap, subst}
 use mathlib.Core.List.{List}
 use native.Mathlib.Omega.{arith}
 use Rattle.fields.specs.Shape.{GoodShape}
-use Rattle.records.specs.Conv.{convOutput}
-use Rattle.records.specs.Full.{fullOutput}
 use Rattle.fields.specs.declared.shape.Shape.{Shape}
-use Rattle.records.specs.declared.conv.Conv.{Conv}
+use Rattle.records.specs.Frame.{frameOutput, FrameOk, Fits}
+use Rattle.records.specs.Layer.{outputShape, otherOf, KindOk, KindFits}
+use Rattle.records.specs.declared.frame.Frame.{Frame}
 use Rattle.records.specs.declared.layer.Kind.{Kind}
 use Rattle.records.specs.declared.layer.Kind.the-variants.{Convolution, Fully, Addition}
 use Rattle.records.specs.declared.layer.Layer.{Layer}
 use Rattle.network.specs.Network.{layerOf, tensorOf}
-use Rattle.network.specs.Taken.{ConvTaken, KindTaken, LayerTaken, Taken}
+use Rattle.network.specs.Taken.{LayerTaken, Taken}
 use Rattle.network.specs.declared.net.Network.{Network}
 use Rattle.bands.specs.declared.reach.Link.{Link}
 use Rattle.bands.specs.Windows.{Shape as Chain, rowsIn, Sound}
@@ -38,22 +38,22 @@ pub record LinkOk (n : Network) (m : ℕ) (y : Link) : Type 0 where
   -- no window starts past the input's last row
   pub starts : (i : ℕ) → i < y .rows → i * y .stride < tensorOf n m .rows + y .before
 
--- the rows of a convolution
-conv-starts :
-    (s : List ℕ) (y : Layer) (c : Conv) →
-    ConvTaken s y c →
-    (i : ℕ) →
-    i < y .output .rows →
-    i * c .stride < y .input .rows + c .padding
-unfolding convOutput
-conv-starts s y c t i h =
-    let p = c .padding in
-    let rows = y .input .rows in
-    let padded : rows + 2 * p - c .height ≡ rows + p + p - c .height = omega arith in
-    let made = ap (λ (x : Shape). x .rows) (t .output) ∙ ap (λ (k : ℕ). k / c .stride + 1) padded in
-    row-starts p p (c .height) (c .stride) rows i (t .ok .stride-some) (t .ok .padding-rows)
-    (omega (arith, t .rows-fit))
-    (subst (λ (k : ℕ). i < k) made h)
+-- no window of a frame that fits starts past the input's last row
+frame-starts :
+    (f : Frame) (i : Shape) (channels rows : ℕ) →
+    FrameOk f →
+    Fits f i →
+    rows ≡ frameOutput f i channels .rows →
+    (r : ℕ) →
+    r < rows →
+    r * f .stride < i .rows + f .padding
+unfolding frameOutput
+frame-starts f i channels rows ok fit e r h =
+    let p = f .padding in
+    let padded : i .rows + 2 * p - f .height ≡ i .rows + p + p - f .height = omega arith in
+    row-starts p p (f .height) (f .stride) (i .rows) r (ok .stride-some) (ok .padding-rows)
+    (omega (arith, fit .rows-fit))
+    (subst (λ (k : ℕ). r < k) (e ∙ ap (λ (k : ℕ). k / f .stride + 1) padded) h)
 
 module _ (s : List ℕ) (n : Network) (m : ℕ) (l : LayerTaken s n m (layerOf n m)) (good : GoodShape (layerOf n m .input)) where
   input-rows : layerOf n m .input .rows ≡ tensorOf n m .rows
@@ -79,25 +79,36 @@ module _ (s : List ℕ) (n : Network) (m : ℕ) (l : LayerTaken s n m (layerOf n
     starts = λ i h. omega (arith, input-rows);
   }
 
-  link-by : (k : Kind) → KindTaken s n m (layerOf n m) k → LinkOk n m (linkBy k (layerOf n m) m)
-  unfolding fullOutput
-  link-by (Convolution c) t = record {
+  link-by :
+      (k : Kind) →
+      KindOk k →
+      KindFits k (layerOf n m .input) →
+      layerOf n m .output ≡ outputShape k (layerOf n m .input) →
+      otherOf k m ≤ m →
+      tensorOf n (otherOf k m) ≡ layerOf n m .input →
+      LinkOk n m (linkBy k (layerOf n m) m)
+  link-by (Convolution c) ok fit made there same = record {
     other-before = omega arith;
     other-rows = refl;
-    before-few = omega (arith, t .ok .padding-rows, t .ok .height-few);
-    before-less = t .ok .padding-rows;
-    kernel-some = t .ok .height-some;
-    stride-some = t .ok .stride-some;
-    stride-few = omega (arith, t .ok .stride-few);
+    before-few = omega (arith, ok .frame .padding-rows, ok .frame .height-few);
+    before-less = ok .frame .padding-rows;
+    kernel-some = ok .frame .height-some;
+    stride-some = ok .frame .stride-some;
+    stride-few = omega (arith, ok .frame .stride-few);
     rows-are = refl;
-    starts = λ i h. omega (arith, conv-starts s (layerOf n m) c t i h, input-rows);
+    starts = λ i h.
+        omega (
+          arith,
+          frame-starts (c .frame) (layerOf n m .input) (c .filters) _ (ok .frame) fit (ap (λ (x : Shape). x .rows) made) i h,
+          input-rows,
+        );
   }
-  link-by (Fully f) t =
+  link-by (Fully f) ok fit made there same =
       plain m (layerOf n m .input .rows) (omega arith) refl (good .rows-some)
-      (omega (arith, ap (λ (x : Shape). x .rows) (t .output), good .rows-some))
-  link-by (Addition a) t =
-      plain (a .other) 1 (t .other-there) (ap (λ (x : Shape). x .rows) (t .other-shape) ∙ input-rows) (omega arith)
-      (omega (arith, ap (λ (x : Shape). x .rows) (t .output)))
+      (omega (arith, ap (λ (x : Shape). x .rows) made, good .rows-some))
+  link-by (Addition a) ok fit made there same =
+      plain (a .other) 1 there (ap (λ (x : Shape). x .rows) same ∙ input-rows) (omega arith)
+      (omega (arith, ap (λ (x : Shape). x .rows) made))
 
 -- the layers as the history sees them
 abbrev pub chainOf : Network → Chain
@@ -114,7 +125,9 @@ chain-rows n (suc m) = link-rows (layerOf n m .kind) (layerOf n m) m
 
 module _ (s : List ℕ) (n : Network) (t : Taken s n) where
   pub link-ok : (m : ℕ) → m < n .count → LinkOk n m (linkOf n m)
-  link-ok m h = link-by s n m (t .layers m h) (input-good s n t m h) (layerOf n m .kind) (t .layers m h .kind)
+  link-ok m h =
+      let k = t .layers m h .kind in
+      link-by s n m (t .layers m h) (input-good s n t m h) (layerOf n m .kind) (k .ok) (k .fits) (k .output) (k .other-there) (k .other-shape)
 
   pub links-sound : Sound (chainOf n)
   links-sound = record {

@@ -13,8 +13,8 @@ use Rattle.fields.specs.Faults.{first}
 use Rattle.fields.specs.Bytes.{byteAt}
 use Rattle.fields.specs.Shape.{GoodShape}
 use Rattle.records.specs.declared.layer.Layer.{Layer}
-use Rattle.records.specs.declared.layer.Read.{Read}
-use Rattle.records.specs.declared.layer.Read.the-variants.{Refused, Found}
+use Rattle.records.specs.declared.reader.Read.{Read}
+use Rattle.records.specs.declared.reader.Read.the-variants.{Refused, Found}
 use Rattle.fields.proofs.Tests.{first-both}
 use Rattle.network.specs.Network.{blankShape, blankLayer, emptyNetwork, layerOf, tensorOf}
 use Rattle.network.specs.Head.{pictureAt, headFault}

@@ -2,6 +2,7 @@
 -- Assumes nothing.
 use Prim.Native.Nat.{ℕ, zero, suc}
 use mathlib.Core.List.{List, [], _∷_, _++_}
+use Rattle.records.specs.declared.frame.Frame.{Frame}
 use Rattle.records.specs.declared.layer.Kind.{Kind}
 use Rattle.records.specs.declared.layer.Kind.the-variants.{Convolution, Fully, Addition}
 use Rattle.records.specs.declared.layer.Layer.{Layer}
@@ -19,10 +20,13 @@ numbers (suc k) f = numbers k f ++ (f k ∷ [])
 abbrev pub tensorsOf : Network → Tensors
 tensorsOf n = record { count = n .count; rows = numbers 17 (λ t. tensorOf n t .rows) }
 
--- a convolution row looks at the rows from i × stride − p on, as many as the kernel has; a full layer's row at all of them; an add's row i at
--- row i of both inputs
+-- row i of a windowed layer looks at the rows from i × stride − p on, as many as the kernel has
+abbrev pub frameLink : Frame → ℕ → ℕ → Link
+frameLink f m rows = record { other = m; before = f .padding; kernel = f .height; stride = f .stride; rows = rows }
+
+-- a full layer's row looks at all of them; an add's row i at row i of both inputs
 abbrev pub linkBy : Kind → Layer → ℕ → Link
-linkBy (Convolution c) y m = record { other = m; before = c .padding; kernel = c .height; stride = c .stride; rows = y .output .rows }
+linkBy (Convolution c) y m = frameLink (c .frame) m (y .output .rows)
 linkBy (Fully f) y m = record { other = m; before = 0; kernel = y .input .rows; stride = 1; rows = y .output .rows }
 linkBy (Addition a) y m = record { other = a .other; before = 0; kernel = 1; stride = 1; rows = y .output .rows }
 

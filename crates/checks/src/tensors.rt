@@ -2,12 +2,13 @@
 ghost use mathlib.Core.Path.{_≡_};
 ghost use Prim.Native.Nat.{ℕ, _≤_, _<_};
 ghost use Rattle.network.specs.Network.{layerOf, tensorOf};
-ghost use Rattle.checks.specs.Tensors.{tensorsOf, linkOf};
+ghost use Rattle.checks.specs.Tensors.{tensorsOf, frameLink, linkOf};
 use bands::reach::Link;
 use bands::state::Tensors;
 use network::net::Network;
 use network::net::layer;
 use network::net::tensor;
+use records::frame::Frame;
 use records::layer::Kind;
 
 // The rows of each tensor.
@@ -28,6 +29,19 @@ pub fn tensors_of(n: Network) -> Tensors
     }
 }
 
+// How a windowed layer m, which makes so many rows, hangs on its input.
+fn frame_link(f: Frame, m: usize, rows: u16) -> Link
+    ensures { λ r. ⌜ r ≡ frameLink f m rows ⌝ }
+{
+    Link {
+        other: m,
+        before: f.padding as u16,
+        kernel: f.height as u16,
+        stride: f.stride as u16,
+        rows,
+    }
+}
+
 // How layer m hangs on its inputs.
 pub fn link_of(n: Network, m: usize) -> Link
     requires { ⌜ (m < 16) × (layerOf n m .input .rows ≤ 16384) × (layerOf n m .output .rows ≤ 16384) ⌝ }
@@ -39,13 +53,10 @@ pub fn link_of(n: Network, m: usize) -> Link
     let rows = output.rows as u16;
     let kind = y.kind;
     match kind {
-        Kind::Convolution(c) => Link {
-            other: m,
-            before: c.padding as u16,
-            kernel: c.height as u16,
-            stride: c.stride as u16,
-            rows,
-        },
+        Kind::Convolution(c) => {
+            let frame = c.frame;
+            frame_link(frame, m, rows)
+        }
         Kind::Fully(_) => Link {
             other: m,
             before: 0,

@@ -10,8 +10,8 @@ use Rattle.fields.specs.Bytes.{signed}
 use Rattle.records.specs.Mark.{isMark, markAt}
 use Rattle.fields.specs.Shape.{bytesOf, sizeFault}
 use Rattle.fields.specs.Stored.{biasFaults, storedLen, storedFault}
-use Rattle.records.specs.Layer.{answer}
-use Rattle.records.specs.Conv.{convOutput, convShape, convTerms, readConvAs}
+use Rattle.records.specs.Frame.{fits, frameOutput}
+use Rattle.records.specs.Reader.{ownFault, suitFault, answer, readAs}
 use Rattle.windows.specs.Lists.{joined}
 use Rattle.network.specs.Head.{pictureAt, headMark, headFault}
 use Rattle.network.specs.Decode.{readLayer, stopped, started, startOf, pushed, stepOf, runOf, endFault, decodedAs, decodeOf}
@@ -42,7 +42,7 @@ refusedOne = 0x72 ∷ 0x65 ∷ 0x66 ∷ 0x75 ∷ 0x73 ∷ 0x65 ∷ 0x64 ∷ 0x20
 
 -- network K, and K less its last byte
 pub listings : (listingOf k ≡ text) × (listingOf (take 38 k) ≡ refusedOne)
-unfolding listingOf lineOf decimalTo joined decodeOf decodedAs endFault runOf stepOf pushed startOf started stopped readLayer headFault headMark pictureAt readConvAs convTerms convShape convOutput answer storedFault storedLen biasFaults sizeFault bytesOf markAt isMark signed biasFault paddingFault clampFault cutFault spareFault within first
+unfolding listingOf lineOf decimalTo joined decodeOf decodedAs endFault runOf stepOf pushed startOf started stopped readLayer headFault headMark pictureAt ownFault fits frameOutput suitFault readAs answer storedFault storedLen biasFaults sizeFault bytesOf markAt isMark signed biasFault paddingFault clampFault cutFault spareFault within first
 listings = (refl, refl)
 
 -- an empty file

@@ -9,15 +9,15 @@ use Rattle.fields.specs.Shape.{bytesOf, SmallShape, GoodShape}
 use Rattle.records.specs.Layer.{sumsOf}
 use Rattle.fields.specs.declared.shape.Shape.{Shape}
 use Rattle.records.specs.declared.layer.Kind.{Kind}
-use Rattle.records.specs.declared.layer.Kind.the-variants.{Convolution, Fully, Addition}
 use Rattle.records.specs.declared.layer.Layer.{Layer}
 use Rattle.windows.specs.Lists.{pasted, joined}
 use Rattle.windows.proofs.Pasted.{pasted-nil, joined-step}
 use Rattle.network.specs.Network.{layerOf}
 use Rattle.network.specs.Decode.{decodeOf}
-use Rattle.network.specs.Taken.{Taken, KindTaken}
+use Rattle.network.specs.Taken.{Taken}
 use Rattle.network.specs.declared.net.Network.{Network}
 use Rattle.network.specs.declared.file.Decoded.{Decoded}
+use Rattle.network.proofs.Bounds.{sums-few as sums-in-store}
 use Rattle.network.proofs.Taken.{taken}
 use Rattle.table.specs.Listing.{decimal, column, lineOf, wordOf, heading, pictureWord, layerLine, tableOf, refusedLine, listed, listingOf}
 use Rattle.table.proofs.Wrote.{Wrote, Front, wrote-more, front-three}
@@ -77,11 +77,7 @@ module _ {s : List ℕ} {n : Network} (t : Taken s n) {m : ℕ} (h : m < n .coun
   output-good = rw e (t .shapes (suc m) h)
 
   pub sums-few : sumsOf (y .kind) ≤ 256
-  sums-few = rw e (by-kind (layerOf n m .kind) (t .layers m h .kind)) where
-    by-kind : (k : Kind) → KindTaken s n m (layerOf n m) k → sumsOf k ≤ 256
-    by-kind (Convolution c) g = omega (arith, g .ok .filters-few)
-    by-kind (Fully f) g = g .ok .outputs-few
-    by-kind (Addition a) g = omega arith
+  sums-few = rw e (sums-in-store s n t m h)
 
 -- no layer's line yet
 pub table-starts : (d : List ℕ) (at : ℕ) (f : ℕ → List ℕ) → Wrote d at (joined 0 f) at d

@@ -23,17 +23,17 @@ terms-of-requires : tie.Need-terms-of-requires Inv-loop μ-loop
 terms-of-requires c κs = search needs
 
 cast-most : tie.Need-cast-most Inv-loop μ-loop
-cast-most c = omega (arith, c .terms-of .ensures)
+cast-most c = omega (arith, c .terms-of .ensures .0)
 
 mul-most : tie.Need-mul-most Inv-loop μ-loop
-mul-most c = omega (arith, c .terms-of .ensures)
+mul-most c = omega (arith, c .terms-of .ensures .0)
 
 sums-of-requires : tie.Need-sums-of-requires Inv-loop μ-loop
 sums-of-requires c κs = search needs
 
 loop-holds : tie.Need-loop-holds Inv-loop μ-loop
 unfolding every
-loop-holds c = (search needs, omega (arith, c .sums-of .ensures), refl)
+loop-holds c = (search needs, omega (arith, c .sums-of .ensures .0), refl)
 
 add-if1 : tie.Need-add-if1 Inv-loop μ-loop
 add-if1 c = omega arith
@@ -47,7 +47,7 @@ shared-slice-read-if1 c = omega arith
 returns : tie.Need-returns Inv-loop μ-loop
 returns c =
     let h : 255 * c .before .before .before .before .before .terms-of .result < getD (c .before .before .before .before .before .before .before .args .sums .now) (c .before .before .before .before .before .before .before .args .y .sums + c .before .before .before .loop .f) 0 = omega arith in
-    fits-as _ _ _ _ _ (c .before .before .before .before .before .terms-of .ensures) (c .before .before .before .before .sums-of .ensures) (sym (every-not _ _ (c .before .before .before .loop .f) (c .before .before .loop-test .taken) (lt-leb _ _ h)))
+    fits-as _ _ _ _ _ (c .before .before .before .before .before .terms-of .ensures .0) (c .before .before .before .before .sums-of .ensures .0) (sym (every-not _ _ (c .before .before .before .loop .f) (c .before .before .loop-test .taken) (lt-leb _ _ h)))
 
 add-f : tie.Need-add-f Inv-loop μ-loop
 add-f c = omega arith
@@ -63,7 +63,7 @@ loop-again c =
 returns-2 : tie.Need-returns-2 Inv-loop μ-loop
 returns-2 c =
     let e : c .before .loop .f ≡ c .before .before .sums-of .result = omega arith in
-    fits-as _ _ _ _ _ (c .before .before .before .terms-of .ensures) (c .before .before .sums-of .ensures) (sym (rw e at (c .before .loop .inv .2)))
+    fits-as _ _ _ _ _ (c .before .before .before .terms-of .ensures .0) (c .before .before .sums-of .ensures .0) (sym (rw e at (c .before .loop .inv .2)))
 
 pub sums-fit-spec : {M : Type 1} → statement M
 sums-fit-spec =

@@ -100,7 +100,7 @@ returns c =
     let w = c .before .before in
     let a = w .before .before .before .before .before .args in
     laid-done _ _ _ _ (c .before .loop .inv .1) (omega arith) ∙
-    ap (pasted (now (a .sums)) (a .y .sums)) (sums-are (a .y) (now (a .file)) (w .before .before .terms-of .ensures) (w .before .sums-of .ensures) (w .weights-at .ensures))
+    ap (pasted (now (a .sums)) (a .y .sums)) (sums-are (a .y) (now (a .file)) (w .before .before .terms-of .ensures .0) (w .before .sums-of .ensures .0) (w .weights-at .ensures))
 
 pub put-sums-spec : {M : Type 1} → statement M
 put-sums-spec =

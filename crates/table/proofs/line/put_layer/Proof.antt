@@ -44,7 +44,7 @@ same-length c = search needs
 returns : tie.Need-returns
 returns c =
     let a = c .before .before .before .before .before .before .before .before .before .args in
-    line-of-kind (now (a .out)) (a .at) (a .t) (a .s) (a .kind) (ap wordOf (c .before .before .before .before .before .enum-told .given .1)) (c .before .before .before .before .before .before .before .sums-of .ensures) (c .before .before .put-line .ensures)
+    line-of-kind (now (a .out)) (a .at) (a .t) (a .s) (a .kind) (ap wordOf (c .before .before .before .before .before .enum-told .given .1)) (c .before .before .before .before .before .before .before .sums-of .ensures .0) (c .before .before .put-line .ensures)
 
 same-length-2 : tie.Need-same-length-2
 same-length-2 c = search needs
@@ -52,7 +52,7 @@ same-length-2 c = search needs
 returns-2 : tie.Need-returns-2
 returns-2 c =
     let a = c .before .before .before .before .before .before .before .before .before .args in
-    line-of-kind (now (a .out)) (a .at) (a .t) (a .s) (a .kind) (ap wordOf (c .before .before .before .before .before .enum-told2 .given .1)) (c .before .before .before .before .before .before .before .sums-of .ensures) (c .before .before .put-line2 .ensures)
+    line-of-kind (now (a .out)) (a .at) (a .t) (a .s) (a .kind) (ap wordOf (c .before .before .before .before .before .enum-told2 .given .1)) (c .before .before .before .before .before .before .before .sums-of .ensures .0) (c .before .before .put-line2 .ensures)
 
 same-length-3 : tie.Need-same-length-3
 same-length-3 c = search needs
@@ -60,7 +60,7 @@ same-length-3 c = search needs
 returns-3 : tie.Need-returns-3
 returns-3 c =
     let a = c .before .before .before .before .before .before .before .before .before .args in
-    line-of-kind (now (a .out)) (a .at) (a .t) (a .s) (a .kind) (ap wordOf (c .before .before .before .before .before .enum-told3 .given .1)) (c .before .before .before .before .before .before .before .sums-of .ensures) (c .before .before .put-line3 .ensures)
+    line-of-kind (now (a .out)) (a .at) (a .t) (a .s) (a .kind) (ap wordOf (c .before .before .before .before .before .enum-told3 .given .1)) (c .before .before .before .before .before .before .before .sums-of .ensures .0) (c .before .before .put-line3 .ensures)
 
 pub put-layer-spec : {M : Type 1} → statement M
 put-layer-spec =
