@@ -141,7 +141,7 @@ module _ (file sums area : List ℕ) (s : State) (p : callFault file sums (lengt
   input-length : length input ≡ bytesOf (layerOf net m .input)
   input-length =
       let e = ap bytesOf (run .taken .layers m h .input) in
-      part-length area (placeOf net m) (bytesOf (tensorOf net m)) (omega (arith, ready .before, ready .within, run .area-in, e)) ∙ sym e
+      part-length area (placeOf net m) (bytesOf (tensorOf net m)) (omega (arith, ready .first .input-in, run .area-in, e)) ∙ sym e
 
   input-bytes : Bytes area → Bytes input
   input-bytes b = bytes-take (bytesOf (tensorOf net m)) _ (bytes-drop (placeOf net m) area b)

@@ -12,16 +12,16 @@ use Rattle.fields.specs.declared.shape.Shape.{Shape}
 use Rattle.records.specs.declared.conv.Conv.{Conv}
 use Rattle.records.specs.declared.layer.Layer.{Layer}
 use Rattle.fields.proofs.Shapes.{mul-most}
-use Rattle.windows.specs.Lists.{pasted, joined, part}
+use Rattle.windows.specs.Lists.{pasted, joined, part, Apart}
 use Rattle.windows.specs.Window.{Sound, sizeOf, termsOf, windowOf}
 use Rattle.windows.specs.declared.window.Window.{Window}
-use Rattle.windows.proofs.Pasted.{part-length, part-part, part-pasted, joined-same}
+use Rattle.windows.proofs.Pasted.{part-length, part-part, part-pasted, apart-within, joined-same}
 use Rattle.windows.proofs.Windows.{window-length, window-plain}
 use Rattle.layers.specs.Outputs.{OutputsReady, outputsOf}
 use Rattle.layers.specs.Conv.{windowFor, convOutputs, convRow}
 use Rattle.layers.specs.Row.{ConvReady, tensorAt}
 use Rattle.layers.specs.declared.outputs.Outputs.{Outputs}
-use Rattle.layers.proofs.Laid.{Laid, room, laid-more, laid-before, cut-is}
+use Rattle.layers.proofs.Laid.{Laid, room, laid-more, laid-apart, cut-is}
 use Rattle.layers.proofs.Rows.{row-in}
 use Rattle.layers.proofs.Lengths.{outputs-length}
 use Rattle.layers.proofs.Totals.{ready-any}
@@ -123,28 +123,30 @@ module _ (y : Layer) (c : Conv) {file sums : List ℕ} (r : ConvReady y c file s
         j < y .output .columns →
         p ≡ i * c .stride →
         q ≡ j * c .stride →
-        from + bytesOf (y .input) ≤ at →
+        Apart from (bytesOf (y .input)) at (o .count) →
+        from + bytesOf (y .input) ≤ size →
         at + o .count ≤ size →
         12544 ≤ patch →
         Sound w ×
         (OutputsReady o (termsOf w) file sums ×
-        (((from + sizeOf w ≤ at) × (at + o .count ≤ size)) × ((q ≤ w .columns + w .left) × (p ≤ 131072) × (termsOf w ≤ patch))))
+        ((Apart from (sizeOf w) at (o .count) × (from + sizeOf w ≤ size) × (at + o .count ≤ size)) ×
+        ((q ≤ w .columns + w .left) × (p ≤ 131072) × (termsOf w ≤ patch))))
     unfolding bytesOf
-    place-ready z i j from ew eo hi hj ep eq hf hr hp =
+    place-ready z i j from ew eo hi hj ep eq ha hf hr hp =
         let sound = window-sound z in
         let taps = taps-few (windowFor y c z) sound in
         let terms : termsOf (windowFor y c z) ≤ 12544 = mul-most (c .height * c .width) (y .input .channels) 49 256 taps (g .channels-few) in (
           rw ew sound,
           (
             rw (eo, ew) (ready-any (convOutputs y c 0) z _ (r .outputs)),
-            ((rw ew hf, hr), (rw (ew, eq) (column-at j hj), rw ep (row-at i hi), rw ew (omega arith))),
+            ((rw ew ha, rw ew hf, hr), (rw (ew, eq) (column-at j hj), rw ep (row-at i hi), rw ew (omega arith))),
           ),
         )
 
--- one more place of a row, of the tensor that stands in the area before it
+-- one more place of a row, of the tensor that stands in the area apart from it
 pub place-turn :
     (w : Window) (o : Outputs) (file sums area : List ℕ) (n from at p s j : ℕ) {a q : ℕ} {area₁ area₂ : List ℕ} →
-    from + sizeOf w ≤ at →
+    Apart from (sizeOf w) at (n * o .count) →
     at ≤ length area →
     j < n →
     a ≡ at + j * o .count →
@@ -155,12 +157,13 @@ pub place-turn :
     Laid n (λ k. outputsOf o file sums (windowOf w (part area from (sizeOf w)) p (k * s))) area at area₂ (j + 1)
 place-turn w o file sums area n from at p s j {a} {q} {area₁} hf ha hj ea eq l e =
     laid-more n _ area at (o .count) j (λ k. outputs-length o file sums _) ha hj ea l
-    (e ∙ ap₂ (λ (t : List ℕ) (x : ℕ). pasted area₁ a (outputsOf o file sums (windowOf w t p x))) (laid-before n _ area at from (sizeOf w) hf ha l) eq)
+    (e ∙ ap₂ (λ (t : List ℕ) (x : ℕ). pasted area₁ a (outputsOf o file sums (windowOf w t p x)))
+    (laid-apart n _ area at (o .count) from (sizeOf w) (λ k. outputs-length o file sums _) hf ha l) eq)
 
 -- the same, of a window that stands in the area as it is, one of n windows of m bytes
 pub plain-turn :
     (o : Outputs) (file sums area : List ℕ) (n m from at j : ℕ) {a s : ℕ} {area₁ area₂ : List ℕ} →
-    from + n * m ≤ at →
+    Apart from (n * m) at (n * o .count) →
     at ≤ length area →
     j < n →
     a ≡ at + j * o .count →
@@ -170,8 +173,12 @@ pub plain-turn :
     length area₂ ≡ length area₁ →
     Laid n (λ k. outputsOf o file sums (part area (from + k * m) m)) area at area₂ (j + 1)
 plain-turn o file sums area n m from at j {a} {s} {area₁} hf ha hj ea es l e =
+    let all = n * o .count in
+    let window : Apart s m at all =
+    apart-within (n * m) all m all hf (omega arith) (omega arith) (omega arith) (room j n m from es hj (omega arith)) in
     laid-more n _ area at (o .count) j (λ k. outputs-length o file sums _) ha hj ea l
-    (e ∙ ap (λ (t : List ℕ). pasted area₁ a (outputsOf o file sums t)) (laid-before n _ area at s m (room j n m from es hj hf) ha l ∙ ap (λ (x : ℕ). part area x m) es))
+    (e ∙ ap (λ (t : List ℕ). pasted area₁ a (outputsOf o file sums t))
+    (laid-apart n _ area at (o .count) s m (λ k. outputs-length o file sums _) window ha l ∙ ap (λ (x : ℕ). part area x m) es))
 
 module _ (y : Layer) (c : Conv) (z : ℕ) (file sums area : List ℕ) (from i : ℕ) where
   -- the row whose places are gathered

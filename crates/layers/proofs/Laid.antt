@@ -3,12 +3,12 @@
 use mathlib.Core.Path.{_≡_, refl, sym, ap, _∙_}
 use mathlib.Core.List.{List, [], _∷_}
 use Prim.Native.Nat.{ℕ, _+_, _*_, _-_, _≤_, _<_}
-use native.Mathlib.Nat.{add-zero, mul-le-mul-right}
+use native.Mathlib.Nat.{add-zero, mul-one, mul-le-mul-right}
 use native.Mathlib.Omega.{arith}
 use lib.ListN.{length, getD, set, length-set}
 use lib.Seq.{getD-take, getD-drop}
-use Rattle.windows.specs.Lists.{pasted, joined, part}
-use Rattle.windows.proofs.Pasted.{part-length, part-before, pasted-nil, joined-more, joined-set, joined-done}
+use Rattle.windows.specs.Lists.{pasted, joined, part, Apart}
+use Rattle.windows.proofs.Pasted.{part-length, part-apart, apart-within, pasted-nil, joined-length, joined-more, joined-set, joined-done}
 
 -- an element of a part
 pub part-at : (d : List ℕ) (at n i : ℕ) → i < n → getD (part d at n) i 0 ≡ getD d (at + i) 0
@@ -51,14 +51,30 @@ module _ (n : ℕ) (f : ℕ → List ℕ) (d : List ℕ) (at : ℕ) where
   pub laid-done : {k : ℕ} {d₁ : List ℕ} → Laid n f d at d₁ k → n ≤ k → d₁ ≡ pasted d at (joined n f)
   laid-done l h = joined-done d at f (omega (arith, l .few)) (l .is)
 
-  -- what stands before the place is as it was
-  pub laid-before : {k : ℕ} {d₁ : List ℕ} (from m : ℕ) → from + m ≤ at → at ≤ length d → Laid n f d at d₁ k → part d₁ from m ≡ part d from m
-  laid-before {k} from m h g l = ap (λ (r : List ℕ). part r from m) (l .is) ∙ part-before d (joined k f) at from m h g
+  -- what stands apart from all of the parts is as it was
+  pub laid-apart :
+      (m from j : ℕ) {k : ℕ} {d₁ : List ℕ} →
+      ((i : ℕ) → length (f i) ≡ m) →
+      Apart from j at (n * m) →
+      at ≤ length d →
+      Laid n f d at d₁ k →
+      part d₁ from j ≡ part d from j
+  laid-apart m from j {k} hm a g l =
+      let laid = mul-le-mul-right {m = k} {n = n} m (l .few) in
+      ap (λ (r : List ℕ). part r from j) (l .is) ∙
+      part-apart d (joined k f) at from j
+      (apart-within j (n * m) j (length (joined k f)) a (omega arith) (omega (arith, joined-length k m f hm)) (omega arith) (omega arith)) g
 
-  -- an element that stands before the place is as it was
-  pub laid-at : {k : ℕ} {d₁ : List ℕ} (x : ℕ) → x < at → at ≤ length d → Laid n f d at d₁ k → getD d₁ x 0 ≡ getD d x 0
-  laid-at {d₁ = d₁} x h g l =
-      sym (first-of d₁ x) ∙ ap (λ (r : List ℕ). getD r 0 0) (laid-before x 1 (omega arith) g l) ∙ first-of d x
+  -- an element that stands apart from all of the elements that are laid is as it was
+  pub laid-at :
+      (x : ℕ) {k : ℕ} {d₁ : List ℕ} →
+      ((i : ℕ) → length (f i) ≡ 1) →
+      Apart x 1 at n →
+      at ≤ length d →
+      Laid n f d at d₁ k →
+      getD d₁ x 0 ≡ getD d x 0
+  laid-at x {d₁ = d₁} hm a g l =
+      sym (first-of d₁ x) ∙ ap (λ (r : List ℕ). getD r 0 0) (laid-apart 1 x 1 hm (rw mul-one a) g l) ∙ first-of d x
     where
       first-of : (r : List ℕ) (i : ℕ) → getD (part r i 1) 0 0 ≡ getD r i 0
       first-of r i = part-at r i 1 0 (omega arith) ∙ rw add-zero

@@ -1,9 +1,9 @@
 -- The rows of a tensor, and those that a layer of each kind makes.
 -- Assumes nothing.
-use mathlib.Core.Path.{_≡_, refl, sym, ap, ap₂, subst, _∙_}
+use mathlib.Core.Path.{_≡_, sym, ap, ap₂, subst, _∙_}
 use mathlib.Core.List.{List, [], _∷_}
 use Prim.Native.Nat.{ℕ, _+_, _-_, _*_, _≤_, _<_}
-use native.Mathlib.Nat.{mul-le-mul-right, mul-one}
+use native.Mathlib.Nat.{mul-le-mul-right}
 use native.Mathlib.Omega.{arith}
 use lib.ListN.{length, getD}
 use Rattle.fields.specs.Shape.{bytesOf, rowBytes}
@@ -14,21 +14,22 @@ use Rattle.records.specs.declared.conv.Conv.{Conv}
 use Rattle.records.specs.declared.full.Full.{Full}
 use Rattle.records.specs.declared.add.Add.{Add}
 use Rattle.records.specs.declared.layer.Kind.{Kind}
-use Rattle.records.specs.declared.layer.Kind.the-variants.{Convolution, Fully, Addition}
 use Rattle.records.specs.declared.layer.Layer.{Layer}
 use Rattle.windows.specs.Lists.{pasted, joined, part}
-use Rattle.windows.proofs.Pasted.{joined-length, joined-same}
-use Rattle.layers.specs.Conv.{convOutputs, convRow}
-use Rattle.layers.specs.Full.{fullOutputs}
+use Rattle.windows.proofs.Pasted.{apart-within, joined-same}
 use Rattle.layers.specs.Add.{addByte, addRow}
-use Rattle.layers.specs.Row.{tensorAt, rowBy, rowOf, ConvReady, KindReady, Ready}
-use Rattle.layers.proofs.Laid.{Laid, part-at, laid-more, laid-before}
+use Rattle.layers.specs.Row.{tensorAt, rowBy, rowOf, ConvReady, KindReady, Placed, Ready}
+use Rattle.layers.proofs.Laid.{Laid, part-at, laid-more, laid-apart}
 use Rattle.layers.proofs.Lengths.{ready-shaped, row-length}
 
--- a row stands within its tensor
-pub row-in : (s : Shape) (i : ℕ) → i < s .rows → i * rowBytes s + rowBytes s ≤ bytesOf s
+-- k rows from row i stand within their tensor
+pub rows-in : (s : Shape) (i k : ℕ) → i + k ≤ s .rows → i * rowBytes s + k * rowBytes s ≤ bytesOf s
 unfolding bytesOf
-row-in s i h = omega (arith, mul-le-mul-right {m = i + 1} {n = s .rows} (rowBytes s) (omega arith))
+rows-in s i k h = omega (arith, mul-le-mul-right {m = i + k} {n = s .rows} (rowBytes s) h)
+
+-- and so does one
+pub row-in : (s : Shape) (i : ℕ) → i < s .rows → i * rowBytes s + rowBytes s ≤ bytesOf s
+row-in s i h = omega (arith, rows-in s i 1 (omega arith))
 
 -- the same, with the numbers as the code has them
 pub row-skip : (s : Shape) (i : ℕ) {w skip : ℕ} → i < s .rows → w ≡ rowBytes s → skip ≡ i * w → skip + w ≤ bytesOf s
@@ -44,7 +45,7 @@ module _ (y : Layer) (z z′ : ℕ) (file sums : List ℕ) (from other : ℕ) wh
   abbrev pub rowFrom : List ℕ → ℕ → List ℕ
   rowFrom area i = rowOf y z z′ file sums (tensorAt area from (y .input)) (tensorAt area other (y .input)) i
 
-  -- one more row of a run, of the tensors that stand in the area before it
+  -- one more row of a run, of the tensors that stand in the area apart from it
   pub rows-turn :
       (area : List ℕ) (first end i : ℕ) {area₁ area₂ : List ℕ} →
       Ready y file sums (length area) from other →
@@ -58,17 +59,21 @@ module _ (y : Layer) (z z′ : ℕ) (file sums : List ℕ) (from other : ℕ) wh
   rows-turn area first end i {area₁} {area₂} r hf hi he l e same =
       let w = rowBytes (y .output) in
       let at = y .place + first * w in
-      let there = row-in (y .output) i (omega arith) in
-      let before = mul-le-mul-right {m = first} {n = i} w hf in
-      let inside : at ≤ length area = omega (arith, r .within) in
+      let n = bytesOf (y .input) in
+      let rows = rows-in (y .output) first (end - first) (omega arith) in
+      let inside : at ≤ length area = omega (arith, r .first .within) in
       let steps : i + 1 - first ≡ i - first + 1 = omega arith in
       let row : first + (i - first) ≡ i = omega arith in
       let place : y .place + i * w ≡ at + (i - first) * w = omega (arith, ap (λ (k : ℕ). k * w) row) in
-      let t = laid-before (end - first) _ area at from (bytesOf (y .input)) (omega (arith, r .before)) inside l in
-      let t′ = laid-before (end - first) _ area at other (bytesOf (y .input)) (omega (arith, r .other-before)) inside l in
+      let long : (k : ℕ) → length (rowFrom area (first + k)) ≡ w =
+      λ k. row-length y z z′ file sums _ _ _ (ready-shaped y file sums (r .kind)) in
+      let kept : (p : ℕ) → Placed y (length area) p → tensorAt area₁ p (y .input) ≡ tensorAt area p (y .input) =
+      λ p q.
+      laid-apart (end - first) _ area at w p n long
+      (apart-within n (bytesOf (y .output)) n ((end - first) * w) (q .apart) (omega arith) (omega arith) (omega arith) (omega arith)) inside l in
       rw steps
-      (laid-more (end - first) _ area at w (i - first) (λ k. row-length y z z′ file sums _ _ _ (ready-shaped y file sums (r .kind))) inside (omega arith) place l
-      (e ∙ cc (t, t′, row)) same)
+      (laid-more (end - first) _ area at w (i - first) long inside (omega arith) place l
+      (e ∙ cc (kept from (r .first), kept other (r .second), row)) same)
 
 -- what a layer needs, and its rows, by its kind
 module _ (y : Layer) (kind : Kind) (e : y .kind ≡ kind) where

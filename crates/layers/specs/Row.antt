@@ -3,9 +3,7 @@
 use Prim.Native.Nat.{ℕ, _+_, _*_, _≤_}
 use mathlib.Core.Path.{_≡_}
 use mathlib.Core.List.{List}
-use lib.ListN.{length}
 use Rattle.fields.specs.Shape.{bytesOf, GoodShape, rowBytes}
-use Rattle.records.specs.Layer.{termsOf}
 use Rattle.records.specs.Conv.{convOutput, ConvOk}
 use Rattle.records.specs.Full.{fullOutput, FullOk}
 use Rattle.records.specs.Add.{AddOk}
@@ -16,7 +14,7 @@ use Rattle.records.specs.declared.add.Add.{Add}
 use Rattle.records.specs.declared.layer.Kind.{Kind}
 use Rattle.records.specs.declared.layer.Kind.the-variants.{Convolution, Fully, Addition}
 use Rattle.records.specs.declared.layer.Layer.{Layer}
-use Rattle.windows.specs.Lists.{part}
+use Rattle.windows.specs.Lists.{part, Apart}
 use Rattle.layers.specs.Outputs.{OutputsReady}
 use Rattle.layers.specs.Conv.{convOutputs, convRow}
 use Rattle.layers.specs.Full.{fullOutputs, fullRow}
@@ -57,12 +55,17 @@ KindReady (Convolution c) y file sums = ConvReady y c file sums
 KindReady (Fully f) y file sums = FullReady y f file sums
 KindReady (Addition a) y file sums = AddReady y a
 
--- its inputs stand in an area of `room` bytes, from `from` and `other`, before its output
-pub record Ready (y : Layer) (file sums : List ℕ) (room from other : ℕ) : Type 0 where
+-- an input that stands in an area of `room` bytes from `from`, apart from the layer's output
+pub record Placed (y : Layer) (room from : ℕ) : Type 0 where
   pub input : GoodShape (y .input)
   pub output : GoodShape (y .output)
-  pub before : from + bytesOf (y .input) ≤ y .place
-  pub other-before : other + bytesOf (y .input) ≤ y .place
+  pub input-in : from + bytesOf (y .input) ≤ room
+  pub apart : Apart from (bytesOf (y .input)) (y .place) (bytesOf (y .output))
   pub within : y .place + bytesOf (y .output) ≤ room
+
+-- its inputs stand in an area of `room` bytes, from `from` and `other`
+pub record Ready (y : Layer) (file sums : List ℕ) (room from other : ℕ) : Type 0 where
+  pub first : Placed y room from
+  pub second : Placed y room other
   pub few : room ≤ 2147483648
   pub kind : KindReady (y .kind) y file sums

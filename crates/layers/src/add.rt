@@ -1,12 +1,12 @@
 // One row of an add.
 ghost use mathlib.Core.Path.{_≡_};
-ghost use Prim.Native.Nat.{_+_, _*_, _≤_, _<_};
+ghost use Prim.Native.Nat.{_+_, _*_, _<_};
 ghost use lib.ListN.{length};
-ghost use Rattle.fields.specs.Shape.{bytesOf, GoodShape, rowBytes};
+ghost use Rattle.fields.specs.Shape.{rowBytes};
 ghost use Rattle.records.specs.Add.{AddOk};
 ghost use Rattle.windows.specs.Lists.{pasted};
 ghost use Rattle.layers.specs.Add.{addByte, addRow};
-ghost use Rattle.layers.specs.Row.{AddReady, tensorAt};
+ghost use Rattle.layers.specs.Row.{AddReady, Placed, tensorAt};
 use numbers::addition::lift;
 use numbers::addition::sum;
 use numbers::finish::finish;
@@ -41,8 +41,7 @@ pub fn add_row(
     i: usize,
 )
     requires { ⌜ AddReady y a ⌝ }
-    requires { ⌜ GoodShape (y .input) ⌝ }
-    requires { ⌜ (from + bytesOf (y .input) ≤ y .place) × (other + bytesOf (y .input) ≤ y .place) × (y .place + bytesOf (y .output) ≤ length (now area)) ⌝ }
+    requires { ⌜ (Placed y (length (now area)) from) × (Placed y (length (now area)) other) ⌝ }
     requires { ⌜ i < y .output .rows ⌝ }
     ensures { λ _. ⌜ now (area .exit) ≡ pasted (now (area .entry)) (y .place + i * rowBytes (y .output)) (addRow a z zr (rowBytes (y .output)) (tensorAt (now (area .entry)) from (y .input)) (tensorAt (now (area .entry)) other (y .input)) i) ⌝ }
 {

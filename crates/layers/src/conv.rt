@@ -2,13 +2,12 @@
 ghost use mathlib.Core.Path.{_≡_};
 ghost use Prim.Native.Nat.{_+_, _*_, _≤_, _<_};
 ghost use lib.ListN.{length};
-ghost use Rattle.fields.specs.Shape.{bytesOf, GoodShape, rowBytes};
-ghost use Rattle.windows.specs.Lists.{pasted};
+ghost use Rattle.fields.specs.Shape.{rowBytes};
+ghost use Rattle.windows.specs.Lists.{pasted, part, Apart};
 ghost use Rattle.windows.specs.Window.{Sound, sizeOf, termsOf, windowOf};
-ghost use Rattle.windows.specs.Lists.{part};
 ghost use Rattle.layers.specs.Outputs.{OutputsReady, outputsOf};
 ghost use Rattle.layers.specs.Conv.{windowFor, convOutputs, convRow};
-ghost use Rattle.layers.specs.Row.{ConvReady, tensorAt};
+ghost use Rattle.layers.specs.Row.{ConvReady, Placed, tensorAt};
 use crate::outputs::Outputs;
 use crate::outputs::put_outputs;
 use crate::outputs::put_within;
@@ -69,7 +68,7 @@ fn conv_place(
 )
     requires { ⌜ Sound w ⌝ }
     requires { ⌜ OutputsReady o (termsOf w) (now file) (now sums) ⌝ }
-    requires { ⌜ (from + sizeOf w ≤ at) × (at + o .count ≤ length (now area)) ⌝ }
+    requires { ⌜ (Apart from (sizeOf w) at (o .count)) × (from + sizeOf w ≤ length (now area)) × (at + o .count ≤ length (now area)) ⌝ }
     requires { ⌜ (q ≤ w .columns + w .left) × (p ≤ 131072) × (termsOf w ≤ length (now patch)) ⌝ }
     ensures { λ _. ⌜ now (area .exit) ≡ pasted (now (area .entry)) at (outputsOf o (now (file .entry)) (now (sums .entry)) (windowOf w (part (now (area .entry)) from (sizeOf w)) p q)) ⌝ }
 {
@@ -92,8 +91,7 @@ fn gathered_row(
     i: usize,
 )
     requires { ⌜ ConvReady y c (now file) (now sums) ⌝ }
-    requires { ⌜ (GoodShape (y .input)) × (GoodShape (y .output)) ⌝ }
-    requires { ⌜ (from + bytesOf (y .input) ≤ y .place) × (y .place + bytesOf (y .output) ≤ length (now area)) ⌝ }
+    requires { ⌜ Placed y (length (now area)) from ⌝ }
     requires { ⌜ (i < y .output .rows) × (12544 ≤ length (now patch)) ⌝ }
     ensures { λ _. ⌜ now (area .exit) ≡ pasted (now (area .entry)) (y .place + i * rowBytes (y .output)) (convRow y c z (now (file .entry)) (now (sums .entry)) (tensorAt (now (area .entry)) from (y .input)) i) ⌝ }
 {
@@ -127,8 +125,7 @@ fn plain_row(
     i: usize,
 )
     requires { ⌜ ConvReady y c (now file) (now sums) ⌝ }
-    requires { ⌜ (GoodShape (y .input)) × (GoodShape (y .output)) ⌝ }
-    requires { ⌜ (from + bytesOf (y .input) ≤ y .place) × (y .place + bytesOf (y .output) ≤ length (now area)) ⌝ }
+    requires { ⌜ Placed y (length (now area)) from ⌝ }
     requires { ⌜ (i < y .output .rows) × ((c .height ≡ 1) × (c .width ≡ 1) × (c .stride ≡ 1)) ⌝ }
     ensures { λ _. ⌜ now (area .exit) ≡ pasted (now (area .entry)) (y .place + i * rowBytes (y .output)) (convRow y c z (now (file .entry)) (now (sums .entry)) (tensorAt (now (area .entry)) from (y .input)) i) ⌝ }
 {
@@ -161,8 +158,7 @@ pub fn conv_row(
     i: usize,
 )
     requires { ⌜ ConvReady y c (now file) (now sums) ⌝ }
-    requires { ⌜ (GoodShape (y .input)) × (GoodShape (y .output)) ⌝ }
-    requires { ⌜ (from + bytesOf (y .input) ≤ y .place) × (y .place + bytesOf (y .output) ≤ length (now area)) ⌝ }
+    requires { ⌜ Placed y (length (now area)) from ⌝ }
     requires { ⌜ (i < y .output .rows) × (12544 ≤ length (now patch)) ⌝ }
     ensures { λ _. ⌜ now (area .exit) ≡ pasted (now (area .entry)) (y .place + i * rowBytes (y .output)) (convRow y c z (now (file .entry)) (now (sums .entry)) (tensorAt (now (area .entry)) from (y .input)) i) ⌝ }
 {

@@ -1,11 +1,10 @@
 // The row of a full layer.
 ghost use mathlib.Core.Path.{_≡_};
-ghost use Prim.Native.Nat.{_+_, _≤_};
+ghost use Prim.Native.Nat.{_≤_};
 ghost use lib.ListN.{length};
-ghost use Rattle.fields.specs.Shape.{bytesOf, GoodShape};
 ghost use Rattle.windows.specs.Lists.{pasted};
 ghost use Rattle.layers.specs.Full.{fullOutputs, fullRow};
-ghost use Rattle.layers.specs.Row.{FullReady, tensorAt};
+ghost use Rattle.layers.specs.Row.{FullReady, Placed, tensorAt};
 use crate::outputs::Outputs;
 use crate::outputs::put_within;
 use fields::shape::bytes_of;
@@ -34,8 +33,7 @@ fn full_outputs(y: Layer, f: Full, z: u8) -> Outputs
 // The one row of a full layer, whose window is the whole tensor that stands in area from `from`, to its place.
 pub fn full_row(y: Layer, f: Full, z: u8, file: &[u8], sums: &[u32], area: &mut [u8], from: usize)
     requires { ⌜ FullReady y f (now file) (now sums) ⌝ }
-    requires { ⌜ GoodShape (y .input) ⌝ }
-    requires { ⌜ (from + bytesOf (y .input) ≤ y .place) × (y .place + bytesOf (y .output) ≤ length (now area)) ⌝ }
+    requires { ⌜ Placed y (length (now area)) from ⌝ }
     ensures { λ _. ⌜ now (area .exit) ≡ pasted (now (area .entry)) (y .place) (fullRow y f z (now (file .entry)) (now (sums .entry)) (tensorAt (now (area .entry)) from (y .input))) ⌝ }
 {
     let input = y.input;

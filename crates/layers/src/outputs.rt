@@ -2,11 +2,11 @@
 ghost use mathlib.Core.Path.{_≡_};
 ghost use Prim.Native.Nat.{_+_, _*_, _^_, _≤_, _<_};
 ghost use lib.IntN.{natAbs};
-ghost use lib.ListN.{length, take, drop};
+ghost use lib.ListN.{length};
 ghost use Rattle.numbers.specs.Total.{sum, totalOf};
 ghost use Rattle.numbers.specs.Rescale.{rescaled};
 ghost use Rattle.numbers.specs.Finish.{finished};
-ghost use Rattle.windows.specs.Lists.{pasted, part};
+ghost use Rattle.windows.specs.Lists.{pasted, part, Apart};
 ghost use Rattle.layers.specs.Outputs.{OutputsReady, outputOf, outputsOf};
 use fields::bytes::signed_of;
 use fields::bytes::u32_at;
@@ -87,7 +87,7 @@ pub fn put_within(
     at: usize,
 )
     requires { ⌜ OutputsReady o n (now file) (now sums) ⌝ }
-    requires { ⌜ (from + n ≤ at) × (at + o .count ≤ length (now area)) ⌝ }
+    requires { ⌜ (Apart from n at (o .count)) × (from + n ≤ length (now area)) × (at + o .count ≤ length (now area)) ⌝ }
     ensures { λ _. ⌜ now (area .exit) ≡ pasted (now (area .entry)) at (outputsOf o (now (file .entry)) (now (sums .entry)) (part (now (area .entry)) from n)) ⌝ }
 {
     let end = from + n;

@@ -3,6 +3,7 @@
 use Prim.Native.Nat.{ℕ, suc, _+_, _*_, _≤_, _<_, _^_}
 use mathlib.Core.Path.{_≡_, sym, ap}
 use mathlib.Core.List.{List}
+use mathlib.Core.Logic.{inl}
 use native.Mathlib.Omega.{arith}
 use lib.IntN.{natAbs}
 use lib.ListN.{length, getD}
@@ -22,7 +23,7 @@ use Rattle.network.proofs.Places.{tensors-apart}
 use Rattle.layers.specs.Outputs.{OutputsReady}
 use Rattle.layers.specs.Conv.{convOutputs}
 use Rattle.layers.specs.Full.{fullOutputs}
-use Rattle.layers.specs.Row.{KindReady, Ready}
+use Rattle.layers.specs.Row.{KindReady, Placed, Ready}
 use Rattle.layers.specs.declared.outputs.Outputs.{Outputs}
 use Rattle.layers.proofs.Lengths.{ShapedBy}
 use Rattle.checks.specs.Tensors.{linkBy, linkOf}
@@ -125,12 +126,17 @@ pub layer-ready :
 layer-ready file n sums room m r h =
     let t = r .taken in
     let y = t .layers m h in
-    record {
+    let placed : (from : ℕ) → from + bytesOf (layerOf n m .input) ≤ layerOf n m .place → Placed (layerOf n m) (n .area) from =
+    λ from b. record {
       input = input-good file n t m h;
       output = t .shapes (suc m) h;
-      before = input-before file n t m h;
-      other-before = other-before file n t m h;
+      input-in = omega (arith, y .place-end);
+      apart = inl b;
       within = y .place-end;
+    } in
+    record {
+      first = placed (placeOf n m) (input-before file n t m h);
+      second = placed (placeOf n (linkOf n m .other)) (other-before file n t m h);
       few = omega (arith, t .area-few);
       kind =
           kind-ready file n m (layerOf n m) sums (layerOf n m .kind) (y .kind) (terms-few file n t m h) (t .file-few) (y .record-in)

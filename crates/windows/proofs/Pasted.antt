@@ -1,6 +1,7 @@
--- Laws of `part`, `pasted` and `joined`: what a loop that writes has written, and what it left as it was.
+-- Laws of `part`, `Apart`, `pasted` and `joined`: what a loop that writes has written, and what it left as it was.
 -- Assumes nothing.
 use mathlib.Core.Path.{_≡_, refl, sym, ap, _∙_}
+use mathlib.Core.Logic.{inl, inr}
 use mathlib.Core.List.{List, [], _∷_, _++_, append-assoc, append-nil}
 use Prim.Native.Nat.{ℕ, zero, suc, _+_, _*_, _-_, _≤_, _<_}
 use native.Mathlib.Nat.{add-zero, add-suc, add-assoc, add-sub-of-le, zero-mul, suc-mul, mul-one}
@@ -9,7 +10,7 @@ use native.Mathlib.Omega.{arith}
 use lib.ListN.{length, take, drop, getD, set, replicate}
 use lib.ListN.{length-append, length-take, length-drop, take-append-drop, replicate-append-replicate}
 use lib.Seq.{set-split, take-suc, take-at, drop-at, take-take, drop-drop, take-add}
-use Rattle.windows.specs.Lists.{pasted, joined, part}
+use Rattle.windows.specs.Lists.{pasted, joined, part, Apart}
 
 -- ---- a part of a list
 
@@ -27,6 +28,20 @@ part-take (x ∷ d) (suc n) (suc from) m h = part-take d n from m (omega arith)
 -- a part of a part
 pub part-part : (d : List ℕ) (at n from m : ℕ) → from + m ≤ n → part (part d at n) from m ≡ part d (at + from) m
 part-part d at n from m h = part-take (drop at d) n from m h ∙ ap (take m) (drop-drop from at d)
+
+-- ---- places that lie apart
+
+-- stretches within two that lie apart lie apart
+pub apart-within :
+    (k n k′ n′ : ℕ) {from at from′ at′ : ℕ} →
+    Apart from k at n →
+    at ≤ at′ →
+    at′ + n′ ≤ at + n →
+    from ≤ from′ →
+    from′ + k′ ≤ from + k →
+    Apart from′ k′ at′ n′
+apart-within k n k′ n′ (inl h) a b c d = inl (omega arith)
+apart-within k n k′ n′ (inr h) a b c d = inr (omega arith)
 
 -- ---- a list with a part pasted in
 
@@ -74,6 +89,15 @@ part-after d s at from n h g =
     let m = at + length s in
     let rest = drop-drop (from - m) m in
     ap (take n) (rw (← (add-sub-of-le h), ← (rest (pasted d at s)), pasted-end d at s g) (rest d))
+
+-- a part that lies apart from what is pasted is as it was
+pub part-apart :
+    (d s : List ℕ) (at from n : ℕ) →
+    Apart from n at (length s) →
+    at ≤ length d →
+    part (pasted d at s) from n ≡ part d from n
+part-apart d s at from n (inl h) g = part-before d s at from n h g
+part-apart d s at from n (inr h) g = part-after d s at from n h g
 
 -- the part that is pasted
 pub part-pasted : (d s : List ℕ) (at n : ℕ) → length s ≡ n → at ≤ length d → part (pasted d at s) at n ≡ s

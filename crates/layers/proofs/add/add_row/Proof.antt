@@ -1,13 +1,15 @@
--- `layers::add::add_row` meets its contract. The loop's invariant: k bytes of the row are laid from its place, which both tensors stand before.
+-- `layers::add::add_row` meets its contract. The loop's invariant: k bytes of the row are laid from its place, apart from both tensors.
 -- Assumes nothing.
-use mathlib.Core.Path.{_≡_, ap₂, _∙_}
+use mathlib.Core.Path.{_≡_, refl, ap₂, _∙_}
 use mathlib.Core.List.{[], _∷_}
 use Prim.Native.Nat.{ℕ, _+_, _-_, _≤_}
 use native.Mathlib.Omega.{arith}
 use denote.Ref.{now}
-use lib.ListN.{getD}
-use Rattle.fields.specs.Shape.{bytesOf, GoodShape, rowBytes}
+use lib.ListN.{length, getD}
+use Rattle.fields.specs.Shape.{bytesOf, rowBytes}
+use Rattle.windows.proofs.Pasted.{apart-within}
 use Rattle.layers.specs.Add.{addByte}
+use Rattle.layers.specs.Row.{Placed}
 use Rattle.layers.proofs.Laid.{Laid, laid-none, laid-store, laid-done, laid-at}
 use Rattle.layers.proofs.Rows.{row-in, row-skip, add-done}
 use Rattle.layers.proofs.add.add_row.Statement.{statement}
@@ -20,17 +22,13 @@ Inv-loop a z zr area₀ from other i w skip q r at k₀ area k =
 abbrev μ-loop : tie.MeasureT-loop
 μ-loop a z zr area₀ from other i w skip q r at k₀ area k = w - k
 
--- the output has the input's shape
-good : (s : tie.Start Inv-loop μ-loop) → GoodShape (s .args .y .output)
-good s = rw (s .pre .0 .output) (s .pre .1 .0)
-
 times-requires : tie.Need-times-requires Inv-loop μ-loop
-times-requires c κs = omega (arith, good (c .before .before))
+times-requires c κs = omega (arith, c .before .before .pre .1 .0 .0 .output)
 
 times-requires-2 : tie.Need-times-requires-2 Inv-loop μ-loop
 times-requires-2 c κs =
     let s = c .before .before .before in
-    omega (arith, good s, row-in (s .args .y .output) (s .args .i) (s .pre .1 .1 .1))
+    omega (arith, s .pre .1 .0 .0 .output, row-in (s .args .y .output) (s .args .i) (s .pre .1 .1))
 
 -- the row stands in each tensor
 inside :
@@ -40,7 +38,7 @@ inside :
     (n ≤ bytesOf (y .input)) × (n ≤ bytesOf (y .output))
 inside c =
     let s = c .before .before .before .before in
-    let h = row-skip (s .args .y .output) (s .args .i) (s .pre .1 .1 .1) (c .before .times .ensures .0) (c .times2 .ensures .0) in
+    let h = row-skip (s .args .y .output) (s .args .i) (s .pre .1 .1) (c .before .times .ensures .0) (c .times2 .ensures .0) in
     (rw (s .pre .0 .output) at h, h)
 
 add-q : tie.Need-add-q Inv-loop μ-loop
@@ -87,14 +85,17 @@ kept :
     (c : tie.In-loop Inv-loop μ-loop) (from : ℕ) →
     let a = c .before .before .before .before .before .before .before .args in
     let at = from + c .before .before .before .times2 .result + c .before .loop .k in
-    from + bytesOf (a .y .input) ≤ a .y .place →
+    Placed (a .y) (length (now (a .area))) from →
     getD (c .before .loop .area) at 0 ≡ getD (now (a .area)) at 0
-kept c from h =
+kept c from p =
     let t = c .before .before .before in
     let a = t .before .before .before .before .args in
     let skip = t .times2 .result in
     let i = inside t in
-    laid-at _ _ (now (a .area)) (a .y .place + skip) (from + skip + c .before .loop .k) (omega arith) (omega arith) (c .before .loop .inv)
+    let w = t .before .times .result in
+    laid-at _ _ (now (a .area)) (a .y .place + skip) (from + skip + c .before .loop .k) (λ j. refl)
+    (apart-within (bytesOf (a .y .input)) (bytesOf (a .y .output)) 1 w (p .apart) (omega arith) (omega arith) (omega arith) (omega arith))
+    (omega arith) (c .before .loop .inv)
 
 loop-again : tie.Need-loop-again Inv-loop μ-loop
 loop-again c =
@@ -107,7 +108,7 @@ loop-again c =
     let byte = addByte (a .a) (a .z) (a .zr) in
     laid-store (t .before .times .result) (λ j. byte (getD d (a .from + skip + j) 0) (getD d (a .other + skip + j) 0)) d (a .y .place + skip) (l .before .loop .k)
     (omega (arith, inside t)) (l .loop-test .taken) (l .before .loop .inv)
-    (c .add-byte .ensures ∙ ap₂ byte (kept l (a .from) (s .pre .1 .1 .0 .0)) (kept l (a .other) (s .pre .1 .1 .0 .1)))
+    (c .add-byte .ensures ∙ ap₂ byte (kept l (a .from) (s .pre .1 .0 .0)) (kept l (a .other) (s .pre .1 .0 .1)))
 
 same-length : tie.Need-same-length Inv-loop μ-loop
 same-length c = c .before .loop .inv .same

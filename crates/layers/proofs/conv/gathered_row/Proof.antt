@@ -1,4 +1,4 @@
--- `layers::conv::gathered_row` meets its contract. The loop's invariant: j places of the row are laid from its place, which the tensor stands before.
+-- `layers::conv::gathered_row` meets its contract. The loop's invariant: j places of the row are laid from its place, apart from the tensor.
 -- Assumes nothing.
 use mathlib.Core.Path.{_≡_, sym, ap, _∙_}
 use Prim.Native.Nat.{ℕ, _+_, _*_, _-_, _≤_}
@@ -8,6 +8,7 @@ use lib.ListN.{length}
 use Rattle.fields.specs.Shape.{bytesOf, rowBytes}
 use Rattle.windows.specs.Lists.{part}
 use Rattle.windows.specs.Window.{sizeOf, windowOf}
+use Rattle.windows.proofs.Pasted.{apart-within}
 use Rattle.layers.specs.Outputs.{outputsOf}
 use Rattle.layers.specs.declared.outputs.Outputs.{Outputs}
 use Rattle.layers.proofs.Convs.{size-is, column-at, place-ready, place-turn, conv-done}
@@ -65,7 +66,7 @@ times-requires-3 c κs =
     let s = c .before .before .before .before .before .before .before .before .before .before in
     let a = s .args in
     let h = s .pre .1 in
-    omega (arith, h, line c, row-in (a .y .output) (a .i) (h .1 .1 .0))
+    omega (arith, h, line c, row-in (a .y .output) (a .i) (h .1 .0))
 
 -- the row stands in the output
 inside :
@@ -75,7 +76,7 @@ inside :
 inside c =
     let s = c .before .before .before .before .before .before .before .before .before .before .before in
     let a = s .args in
-    row-skip (a .y .output) (a .i) (s .pre .1 .1 .1 .0) (line (c .before)) (c .times3 .ensures .0)
+    row-skip (a .y .output) (a .i) (s .pre .1 .1 .0) (line (c .before)) (c .times3 .ensures .0)
 
 add-at : tie.Need-add-at Inv-loop μ-loop
 add-at c =
@@ -86,18 +87,19 @@ add-at c =
 loop-holds : tie.Need-loop-holds Inv-loop μ-loop
 loop-holds c = (omega arith, omega arith, laid-none _ _ _ _, omega arith)
 
--- the place that is next has room in the row
+-- the place that is next stands in the output
 next :
     (c : tie.In-loop Inv-loop μ-loop) →
     let o = c .before .before .before .before .before .before .before .before .conv-outputs .result in
-    c .before .loop .at + o .count ≤ length (now (c .before .before .before .before .before .before .before .before .before .before .before .before .before .before .args .area))
+    let y = c .before .before .before .before .before .before .before .before .before .before .before .before .before .before .args .y in
+    c .before .loop .at + o .count ≤ y .place + bytesOf (y .output)
 next c =
     let s = c .before .before .before .before .before .before .before .before .before .before .before .before .before .before in
     let y = s .args .y in
     let o = c .before .before .before .before .before .before .before .before .conv-outputs .result in
     let t = c .before .before .before in
     room (c .before .loop .j) (y .output .columns) (o .count) (y .place + t .times3 .result) (c .before .loop .inv .0) (c .loop-test .taken)
-    (omega (arith, s .pre .1 .1 .0, inside t, t .before .times2 .ensures .0))
+    (omega (arith, inside t, t .before .times2 .ensures .0))
 
 conv-place-requires : tie.Need-conv-place-requires Inv-loop μ-loop
 conv-place-requires c κs =
@@ -108,20 +110,24 @@ conv-place-requires c κs =
     let s = l .before .before .before .before .before .before .before .before .before .before .before .before .before .before in
     let a = s .args in
     let h = s .pre .1 in
-    place-ready (a .y) (a .c) (s .pre .0) (h .0 .0) (a .z) (a .i) (l .before .loop .j) (a .from) (w .ensures) (o .ensures) (h .1 .1 .0) (l .loop-test .taken) (l .before .before .before .before .before .times .ensures .0)
-    (v .1) (omega (arith, v .0, h .1 .0)) (omega (arith, next l, v .2 .same)) (omega (arith, v .3, h .1 .1))
+    let p = h .0 in
+    let tensor = bytesOf (a .y .input) in
+    let here = next l in
+    place-ready (a .y) (a .c) (s .pre .0) (p .input) (a .z) (a .i) (l .before .loop .j) (a .from) (w .ensures) (o .ensures) (h .1 .0) (l .loop-test .taken) (l .before .before .before .before .before .times .ensures .0)
+    (v .1) (apart-within tensor (bytesOf (a .y .output)) tensor (o .result .count) (p .apart) (omega (arith, v .0)) here (omega arith) (omega arith))
+    (omega (arith, p .input-in, v .2 .same)) (omega (arith, p .within, v .2 .same)) (omega (arith, v .3, h .1))
 
 add-at-2 : tie.Need-add-at-2 Inv-loop μ-loop
 add-at-2 c =
     let l = c .before .before .before .before .before .before .before in
     let s = l .before .before .before .before .before .before .before .before .before .before .before .before .before .before in
-    omega (arith, s .good, next l)
+    omega (arith, s .good, s .pre .1 .0 .within, next l)
 
 add-q : tie.Need-add-q Inv-loop μ-loop
 add-q c =
     let l = c .before .before .before .before .before .before .before in
     let s = l .before .before .before .before .before .before .before .before .before .before .before .before .before .before in
-    omega (arith, s .pre .0 .ok, s .pre .1, column-at (s .args .y) (s .args .c) (s .pre .0) (s .pre .1 .0 .0) (l .before .loop .j) (l .loop-test .taken))
+    omega (arith, s .pre .0 .ok, s .pre .1, column-at (s .args .y) (s .args .c) (s .pre .0) (s .pre .1 .0 .input) (l .before .loop .j) (l .loop-test .taken))
 
 add-j : tie.Need-add-j Inv-loop μ-loop
 add-j c = omega arith
@@ -138,14 +144,16 @@ loop-again c =
     let t = l .before .before .before in
     let s = l .before .before .before .before .before .before .before .before .before .before .before .before .before .before in
     let a = s .args in
-    let h = s .pre .1 .1 .0 in
+    let p = s .pre .1 .0 in
     let to = a .y .place + t .times3 .result in
     let place = c .before .before .before .before .conv-place in
     let tensor : sizeOf (w .result) ≡ bytesOf (a .y .input) = size-is (a .y) (a .c) (a .z) (w .ensures) in (
       omega (arith, v .0),
       omega (arith, v .1),
       place-turn (w .result) (o .result) (now (a .file)) (now (a .sums)) (now (a .area)) (a .y .output .columns) (a .from) to (t .before .before .times .result) (a .c .stride) (l .before .loop .j)
-          (omega (arith, h)) (omega (arith, h, inside t)) (l .loop-test .taken) (v .0) (v .1) (v .2) (place .ensures) (place .kept .1 .1 .1 .1 .0),
+          (apart-within (bytesOf (a .y .input)) (bytesOf (a .y .output)) _ _ (p .apart) (omega arith)
+          (omega (arith, inside t, t .before .times2 .ensures .0)) (omega arith) (omega arith))
+          (omega (arith, p .within, inside t)) (l .loop-test .taken) (v .0) (v .1) (v .2) (place .ensures) (place .kept .1 .1 .1 .1 .0),
       place .kept .1 .1 .1 .1 .1 .0 ∙ v .3,
     )
 

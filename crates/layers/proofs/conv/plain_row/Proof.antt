@@ -1,12 +1,12 @@
--- `layers::conv::plain_row` meets its contract. The loop's invariant: j places of the row are laid from its place, which the tensor stands before.
+-- `layers::conv::plain_row` meets its contract. The loop's invariant: j places of the row are laid from its place, apart from the tensor.
 -- Assumes nothing.
 use mathlib.Core.Path.{_≡_, sym, ap, ap₂, _∙_}
 use Prim.Native.Nat.{_+_, _*_, _-_, _≤_, _<_}
 use native.Mathlib.Omega.{arith}
 use denote.Ref.{now}
-use lib.ListN.{length}
 use Rattle.fields.specs.Shape.{bytesOf, rowBytes}
 use Rattle.windows.specs.Lists.{part}
+use Rattle.windows.proofs.Pasted.{apart-within}
 use Rattle.layers.specs.Outputs.{outputsOf}
 use Rattle.layers.specs.declared.outputs.Outputs.{Outputs}
 use Rattle.layers.proofs.Convs.{plain-rows, plain-columns, plain-ready, plain-turn, plain-done}
@@ -34,8 +34,8 @@ times-requires c κs = omega (arith, c .before .before .before .before .before .
 row : (s : tie.Start Inv-loop μ-loop) → s .args .i < s .args .y .input .rows
 row s =
     let h = s .pre .1 in
-    let e = plain-rows (s .args .y) (s .args .c) (s .pre .0) (h .0 .0) (h .1 .1 .1 .0) (h .1 .1 .1 .2) in
-    rw e at (h .1 .1 .0)
+    let e = plain-rows (s .args .y) (s .args .c) (s .pre .0) (h .0 .input) (h .1 .1 .0) (h .1 .1 .2) in
+    rw e at (h .1 .0)
 
 times-requires-2 : tie.Need-times-requires-2 Inv-loop μ-loop
 times-requires-2 c κs =
@@ -55,7 +55,7 @@ inside c =
 add-start : tie.Need-add-start Inv-loop μ-loop
 add-start c =
     let s = c .before .before .before .before .before .before .before in
-    omega (arith, s .pre .1 .1 .0, s .good, inside c)
+    omega (arith, s .pre .1 .0 .input-in, s .good, inside c)
 
 -- the output has the input's columns, and the filters for its channels
 shape :
@@ -68,7 +68,7 @@ shape c =
     let a = s .args in
     let r = s .pre .0 in
     let h = s .pre .1 in (
-      plain-columns (a .y) (a .c) r (h .0 .0) (h .1 .1 .1 .1) (h .1 .1 .1 .2),
+      plain-columns (a .y) (a .c) r (h .0 .input) (h .1 .1 .1) (h .1 .1 .2),
       ap (λ (o : Outputs). o .count) (c .conv-outputs .ensures) ∙ sym (filters-are (a .y) (a .c) r),
     )
 
@@ -87,7 +87,7 @@ times-requires-4 c κs =
     let s = c .before .before .before .before .before .before .before .before in
     let a = s .args in
     let h = s .pre .1 in
-    omega (arith, h, line c, row-in (a .y .output) (a .i) (h .1 .1 .0))
+    omega (arith, h, line c, row-in (a .y .output) (a .i) (h .1 .0))
 
 -- the row stands in the output
 outside :
@@ -97,23 +97,24 @@ outside :
 outside c =
     let s = c .before .before .before .before .before .before .before .before .before in
     let a = s .args in
-    row-skip (a .y .output) (a .i) (s .pre .1 .1 .1 .0) (line (c .before)) (c .times4 .ensures .0)
+    row-skip (a .y .output) (a .i) (s .pre .1 .1 .0) (line (c .before)) (c .times4 .ensures .0)
 
 add-at : tie.Need-add-at Inv-loop μ-loop
 add-at c =
     let t = c .before in
     let s = t .before .before .before .before .before .before .before .before .before in
-    omega (arith, s .pre .1 .1 .0, s .good, outside t)
+    omega (arith, s .pre .1 .0 .within, s .good, outside t)
 
 loop-holds : tie.Need-loop-holds Inv-loop μ-loop
 loop-holds c = (omega arith, omega arith, laid-none _ _ _ _)
 
--- the window that is next, and the place
+-- the window that is next stands in the input, and the place in the output
 next :
     (c : tie.In-loop Inv-loop μ-loop) →
     let a = c .before .before .before .before .before .before .before .before .before .before .before .before .args in
     let o = c .before .before .before .before .before .before .before .before .conv-outputs .result in
-    (c .before .loop .start + a .y .input .channels ≤ a .from + bytesOf (a .y .input)) × (c .before .loop .at + o .count ≤ length (now (a .area)))
+    (c .before .loop .start + a .y .input .channels ≤ a .from + bytesOf (a .y .input)) ×
+    (c .before .loop .at + o .count ≤ a .y .place + bytesOf (a .y .output))
 next c =
     let l = c .before in
     let o = c .before .before .before .before .before .before .before .before .conv-outputs .result in
@@ -123,7 +124,7 @@ next c =
       room (l .loop .j) (y .input .columns) (y .input .channels) (s .args .from + t .before .before .times2 .result) (l .loop .inv .0) (c .loop-test .taken)
           (omega (arith, inside (t .before .before), t .before .before .before .times .ensures .0)),
       room (l .loop .j) (y .input .columns) (o .count) (y .place + t .times4 .result) (l .loop .inv .1) (c .loop-test .taken)
-          (omega (arith, s .pre .1 .1 .0, outside t, t .before .times3 .ensures .0)),
+          (omega (arith, outside t, t .before .times3 .ensures .0)),
     )
 
 put-within-requires : tie.Need-put-within-requires Inv-loop μ-loop
@@ -132,21 +133,28 @@ put-within-requires c κs =
     let v = l .before .loop .inv in
     let s = l .before .before .before .before .before .before .before .before .before .before .before .before in
     let a = s .args in
-    let one = s .pre .1 .1 .1 .1 in
-    let n = next l in
-    (plain-ready (a .y) (a .c) (s .pre .0) (a .z) (one .0) (one .1) (l .before .before .before .before .before .before .before .before .conv-outputs .ensures), (omega (arith, s .pre .1 .1 .0, v .1), omega (arith, v .2 .same)))
+    let p = s .pre .1 .0 in
+    let one = s .pre .1 .1 .1 in
+    let n = next l in (
+      plain-ready (a .y) (a .c) (s .pre .0) (a .z) (one .0) (one .1) (l .before .before .before .before .before .before .before .before .conv-outputs .ensures),
+      (
+        apart-within (bytesOf (a .y .input)) (bytesOf (a .y .output)) _ _ (p .apart) (omega (arith, v .1)) (n .1) (omega (arith, v .0)) (n .0),
+        omega (arith, p .input-in, n, v .2 .same),
+        omega (arith, p .within, n, v .2 .same),
+      ),
+    )
 
 add-start-2 : tie.Need-add-start-2 Inv-loop μ-loop
 add-start-2 c =
     let l = c .before .before .before .before in
     let s = l .before .before .before .before .before .before .before .before .before .before .before .before in
-    omega (arith, s .pre .1 .1 .0, s .good, next l)
+    omega (arith, s .pre .1 .0 .input-in, s .good, next l)
 
 add-at-2 : tie.Need-add-at-2 Inv-loop μ-loop
 add-at-2 c =
     let l = c .before .before .before .before in
     let s = l .before .before .before .before .before .before .before .before .before .before .before .before in
-    omega (arith, s .good, next l)
+    omega (arith, s .pre .1 .0 .within, s .good, next l)
 
 add-j : tie.Need-add-j Inv-loop μ-loop
 add-j c = omega arith
@@ -162,7 +170,7 @@ loop-again c =
     let t = l .before .before .before in
     let s = l .before .before .before .before .before .before .before .before .before .before .before .before in
     let a = s .args in
-    let h = s .pre .1 .1 .0 in
+    let p = s .pre .1 .0 in
     let n = a .y .input .channels in
     let start = a .from + t .before .before .times2 .result in
     let to = a .y .place + t .times4 .result in
@@ -170,7 +178,10 @@ loop-again c =
       omega (arith, v .0),
       omega (arith, v .1),
       plain-turn o (now (a .file)) (now (a .sums)) (now (a .area)) (a .y .input .columns) n start to (l .before .loop .j)
-          (omega (arith, h, inside (t .before .before), t .before .before .before .times .ensures .0)) (omega (arith, h, outside t)) (l .loop-test .taken) (v .1) (v .0) (v .2) (put .ensures) (put .kept .1 .1 .1 .0),
+          (apart-within (bytesOf (a .y .input)) (bytesOf (a .y .output)) _ _ (p .apart) (omega arith)
+          (omega (arith, outside t, t .before .times3 .ensures .0)) (omega arith)
+          (omega (arith, inside (t .before .before), t .before .before .before .times .ensures .0)))
+          (omega (arith, p .within, outside t)) (l .loop-test .taken) (v .1) (v .0) (v .2) (put .ensures) (put .kept .1 .1 .1 .0),
     )
 
 same-length : tie.Need-same-length Inv-loop μ-loop
@@ -182,7 +193,7 @@ returns c =
     let s = t .before .before .before .before .before .before .before .before .before in
     let a = s .args in
     let h = s .pre .1 in
-    plain-done (a .y) (a .c) (a .z) (now (a .file)) (now (a .sums)) (now (a .area)) (a .from) (a .i) (s .pre .0) (h .0 .0) (h .1 .1 .0) (h .1 .1 .1) (t .before .before .before .before .before .conv-outputs .ensures)
+    plain-done (a .y) (a .c) (a .z) (now (a .file)) (now (a .sums)) (now (a .area)) (a .from) (a .i) (s .pre .0) (h .0 .input) (h .1 .0) (h .1 .1) (t .before .before .before .before .before .conv-outputs .ensures)
     (t .before .before .before .times .ensures .0) (t .before .before .times2 .ensures .0) (line (t .before)) (t .times4 .ensures .0) (laid-done _ _ _ _ (c .before .loop .inv .2) (omega arith))
 
 pub plain-row-spec : {M : Type 1} → statement M

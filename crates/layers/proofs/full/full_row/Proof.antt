@@ -26,7 +26,8 @@ put-within-requires c κs =
     let y = s .args .y in
     let f = s .args .f in
     let h = full-bytes (y .output) f (s .pre .0 .output) in
-    rw (c .before .before .full-outputs .ensures, c .bytes-of .ensures) (ready-any (fullOutputs y f 0) (s .args .z) _ (s .pre .0 .outputs), (s .pre .1 .1 .0, omega arith))
+    rw (c .before .before .full-outputs .ensures, c .bytes-of .ensures)
+    (ready-any (fullOutputs y f 0) (s .args .z) _ (s .pre .0 .outputs), (rw h at (s .pre .1 .apart), s .pre .1 .input-in, omega arith))
 
 same-length : tie.Need-same-length
 same-length c = search needs

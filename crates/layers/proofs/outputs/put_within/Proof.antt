@@ -1,15 +1,16 @@
--- `layers::outputs::put_within` meets its contract. The loop's invariant: f of the outputs are laid from the place, which the window stands before.
+-- `layers::outputs::put_within` meets its contract. The loop's invariant: f of the outputs are laid from the place, apart from the window.
 -- Assumes nothing.
-use mathlib.Core.Path.{_≡_, sym, ap, _∙_}
+use mathlib.Core.Path.{_≡_, refl, sym, ap, _∙_}
 use mathlib.Core.List.{List, [], _∷_}
 use Prim.Native.Nat.{ℕ, _+_, _-_}
+use native.Mathlib.Nat.{mul-one}
 use native.Mathlib.Omega.{arith}
 use denote.Ref.{now}
 use Rattle.numbers.specs.Total.{sum}
 use Rattle.windows.specs.Lists.{part}
 use Rattle.windows.proofs.Pasted.{part-length}
 use Rattle.layers.specs.Outputs.{outputOf, outputsOf}
-use Rattle.layers.proofs.Laid.{Laid, laid-none, laid-store, laid-done, laid-before, cut-is, cut-length}
+use Rattle.layers.proofs.Laid.{Laid, laid-none, laid-store, laid-done, laid-apart, cut-is, cut-length}
 use Rattle.layers.proofs.outputs.put_within.Statement.{statement}
 use Rattle.layers.proofs.outputs.put_within.Tie as tie
 
@@ -56,8 +57,10 @@ window :
     let a = c .before .before .before .before .before .before .before .args in
     part (c .loop .area) (a .from) (a .from + a .n - a .from) ≡ part (now (a .area)) (a .from) (a .n)
 window c =
-    let a = c .before .before .before .before .before .before .before .args in
-    cut-is _ (a .from) (a .n) ∙ laid-before _ _ (now (a .area)) (a .at) (a .from) (a .n) (omega arith) (omega arith) (c .loop .inv)
+    let s = c .before .before .before .before .before .before .before in
+    let a = s .args in
+    cut-is _ (a .from) (a .n) ∙
+    laid-apart _ _ (now (a .area)) (a .at) 1 (a .from) (a .n) (λ i. refl) (rw mul-one (s .pre .1 .0)) (omega arith) (c .loop .inv)
 
 output-at-requires : tie.Need-output-at-requires Inv-loop μ-loop
 output-at-requires c κs =

@@ -20,7 +20,7 @@ conv-row-requires : tie.Need-conv-row-requires
 conv-row-requires c κs =
     let s = c .before .before .before .before .before .before .before .before .before in
     let r = s .pre .0 in
-    (ready-as (s .args .y) (Convolution _) (c .before .before .before .kind .given .1) r, ((r .input, r .output), ((r .before, r .within), s .pre .1)))
+    (ready-as (s .args .y) (Convolution _) (c .before .before .before .kind .given .1) r, (r .first, s .pre .1))
 
 enum-known-kind-2 : tie.Need-enum-known-kind-2
 enum-known-kind-2 c = search needs
@@ -29,7 +29,7 @@ full-row-requires : tie.Need-full-row-requires
 full-row-requires c κs =
     let s = c .before .before .before .before .before .before .before .before in
     let r = s .pre .0 in
-    (ready-as (s .args .y) (Fully _) (c .before .before .kind2 .given .1) r, (r .input, (r .before, r .within)))
+    (ready-as (s .args .y) (Fully _) (c .before .before .kind2 .given .1) r, r .first)
 
 enum-known-kind-3 : tie.Need-enum-known-kind-3
 enum-known-kind-3 c = search needs
@@ -38,7 +38,7 @@ add-row-requires : tie.Need-add-row-requires
 add-row-requires c κs =
     let s = c .before .before .before .before .before .before .before .before in
     let r = s .pre .0 in
-    (ready-as (s .args .y) (Addition _) (c .before .before .kind3 .given .1) r, (r .input, ((r .before, r .other-before, r .within), s .pre .1 .0)))
+    (ready-as (s .args .y) (Addition _) (c .before .before .kind3 .given .1) r, ((r .first, r .second), s .pre .1 .0))
 
 same-length : tie.Need-same-length
 same-length c = search needs
