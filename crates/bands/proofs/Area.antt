@@ -4,11 +4,11 @@ use Prim.Native.Nat.{ℕ, zero, suc, _≤_, _<_, _+_, _-_, _*_}
 use mathlib.Core.Path.{_≡_, refl, sym, ap, _∙_}
 use mathlib.Core.Logic.{_⊎_, inl, inr}
 use mathlib.Core.List.{List, [], _∷_, _++_, append-assoc}
-use native.Mathlib.Nat.{mul-le-mul-right, zero-mul}
+use native.Mathlib.Nat.{mul-le-mul-right}
 use native.Mathlib.Omega.{arith}
 use native.Mathlib.Decide.{ℕ-discrete, decLt}
 use lib.ListN.{length, set, take, drop}
-use lib.Seq.{sets, sets-eq, length-sets, length-take-le, take-at, drop-at, drop-set-lt, drop-set-add, take-set-le, take-add, drop-drop}
+use lib.Seq.{sets, sets-eq, length-sets, length-take-le, take-at, drop-at, drop-set-lt, drop-set-add, take-set-le}
 use Rattle.bands.specs.declared.band.Band.{Band}
 use Rattle.bands.specs.Band.{band}
 use Rattle.bands.specs.Within.{In, Inside}
@@ -40,22 +40,6 @@ part-stored vs l i h =
 
 pub row-end : (Y : Layout) (t i k : ℕ) → i < k → place Y t i + Y .width t ≤ Y .off t + k * Y .width t
 row-end Y t i k h = omega (arith, mul-le-mul-right (Y .width t) h)
-
--- rows that agree one by one agree as a whole
-pub whole-by-rows : (A A′ : List ℕ) (o w k : ℕ) → ((i : ℕ) → i < k → take w (drop (o + i * w) A) ≡ take w (drop (o + i * w) A′))
-    → take (k * w) (drop o A) ≡ take (k * w) (drop o A′)
-whole-by-rows A A′ o w zero h = rw (zero-mul w)
-whole-by-rows A A′ o w (suc k) h =
-    let e : suc k * w ≡ k * w + w = omega arith in
-    rw (
-      e,
-      take-add (k * w) w (drop o A),
-      take-add (k * w) w (drop o A′),
-      drop-drop (k * w) o A,
-      drop-drop (k * w) o A′,
-      h k (omega arith),
-      whole-by-rows A A′ o w k (λ i hi. h i (omega arith)),
-    )
 
 -- ---- an update
 

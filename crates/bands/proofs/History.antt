@@ -1,4 +1,4 @@
--- What `specs/History` states is proved: `update-meets`, `fresh-meets`, `ran-once`, `kept`, `clean-is-fresh`, `read-is-fresh`.
+-- What a run over bands leaves, and that a load has and each call keeps what `Kept` of `specs/History` says.
 -- Assumes nothing.
 use mathlib.Core.Bool.{cond}
 use Prim.Native.Nat.{ℕ, zero, suc, _≤_, _<_}
@@ -8,13 +8,11 @@ use native.Mathlib.Omega.{arith}
 use native.Mathlib.Decide.{ℕ-discrete}
 use borrow.Author.Tests.{eq-eqb, ne-eqb}
 use Rattle.bands.specs.declared.band.Band.{Band}
-use Rattle.bands.specs.Band.{none, inBand, cover}
+use Rattle.bands.specs.Band.{inBand, cover}
 use Rattle.bands.specs.Within.{In, Inside}
 use Rattle.bands.specs.History.{Bands, Model, Laws, put}
-use Rattle.bands.specs.History.{Store, growStep, growTo, grownOf, redo, runTo, whole, fresh, refreshed, Ran, Sys, Changed, Replaced, Updated, Same, Step, History, Kept}
-use Rattle.bands.specs.History.Step.{change, replace, update, nothing}
-use Rattle.bands.specs.History.History.{load, then}
-use Rattle.bands.proofs.Bands.{dec-in, in-empty, in-test, out-test, cover-left, cover-right, cover-least}
+use Rattle.bands.specs.History.{Store, growStep, growTo, grownOf, redo, runTo, whole, Ran, Sys, Changed, Replaced, Updated, Kept}
+use Rattle.bands.proofs.Bands.{dec-in, in-test, out-test, cover-left, cover-right, cover-least}
 
 pub put-same : {A : Type 0} (f : ℕ → A) (k : ℕ) (v : A) → put f k v k ≡ v
 unfolding put
@@ -81,19 +79,6 @@ module _ {Row : Type 0} (L : Model Row) (law : Laws L) where
         | no e ↦ grown-wider M (omega arith) B B′ h t (omega arith)
       ]
 
-  -- empty bands grow to empty bands
-  grown-empty : (M : ℕ) → M ≤ L .n → (B : Bands) → ((t : ℕ) → t ≤ L .n → B t ≡ none) → (t : ℕ) → t ≤ M → Inside (grownOf L B t) none
-  unfolding grownOf growTo
-  grown-empty zero hM B h t ht = let e : t ≡ 0 = omega arith in rw e (λ i w. rw (h 0 (omega arith)) at w)
-  grown-empty (suc M) hM B h t ht =
-      elim (ℕ-discrete t (suc M)) [
-        | yes e ↦ rw e
-            (least M B none hM
-            (λ i w. rw (h (suc M) hM) at w)
-            (λ i t r hi x w. absurd (in-empty r none (omega arith) (grown-empty M (omega arith) B h t (law .reads-before M i t r hM hi x) r w))))
-        | no e ↦ grown-empty M (omega arith) B h t (omega arith)
-      ]
-
   -- bands within the tensors grow to bands within them
   pub grown-within : (B : Bands) → ((t : ℕ) → t ≤ L .n → Inside (B t) (whole L t)) → (t : ℕ) → t ≤ L .n → Inside (grownOf L B t) (whole L t)
   unfolding grownOf growTo
@@ -141,40 +126,6 @@ module _ {Row : Type 0} (L : Model Row) (law : Laws L) where
       kept = λ m i hm hi w. ap (λ f. f i) (run-keeps (L .n) (suc m) hm) ∙ run-out m i w;
     }
 
-  -- an update recomputes exactly the rows in the grown bands, and a fresh run every row
-  pub update-meets : (N : L .Net) (B : Bands) (S : Store L) → Ran L N (grownOf L B) S (refreshed L N B S)
-  unfolding refreshed
-  update-meets N B S = run-meets N (grownOf L B) S
-
-  pub fresh-meets : (N : L .Net) (S : Store L) → Ran L N (whole L) S (fresh L N S)
-  unfolding fresh
-  fresh-meets N S = run-meets N (whole L) S
-
-  -- what a run leaves is settled by its bands
-  ran-below : (N : L .Net) (C : Bands) (S S₁ S₂ : Store L) → Ran L N C S S₁ → Ran L N C S S₂
-      → (M : ℕ) → M ≤ L .n → (t i : ℕ) → t ≤ M → i < L .rows t → S₁ t i ≡ S₂ t i
-  ran-below N C S S₁ S₂ x y zero hM t i ht hi =
-      let e : t ≡ 0 = omega arith in
-      rw e (x .picture i (rw e at hi) ∙ sym (y .picture i (rw e at hi)))
-  ran-below N C S S₁ S₂ x y (suc M) hM t i ht hi =
-      elim (ℕ-discrete t (suc M)) [
-        | yes e ↦
-            let hi′ : i < L .rows (suc M) = rw e at hi in
-            rw e
-            (elim (dec-in i (C (suc M))) [
-              | yes w ↦ x .redone M i hM hi′ w
-                  ∙ law .row-local N N S₁ S₂ M i hM hi′ refl refl refl
-                  (λ t r z hr. ran-below N C S S₁ S₂ x y M (omega arith) t r (law .reads-before M i t r hM hi′ z) hr)
-                  ∙ sym (y .redone M i hM hi′ w)
-              | no w ↦ x .kept M i hM hi′ w ∙ sym (y .kept M i hM hi′ w)
-            ])
-        | no e ↦ ran-below N C S S₁ S₂ x y M (omega arith) t i (omega arith) hi
-      ]
-
-  pub ran-once : (N : L .Net) (C : Bands) (S S₁ S₂ : Store L) → Ran L N C S S₁ → Ran L N C S S₂
-      → (t i : ℕ) → t ≤ L .n → i < L .rows t → S₁ t i ≡ S₂ t i
-  ran-once N C S S₁ S₂ x y t i ht hi = ran-below N C S S₁ S₂ x y (L .n) (omega arith) t i ht hi
-
   -- rows that agree with a run's are a run's
   pub ran-like : (N : L .Net) (C : Bands) (S S₁ S₂ : Store L) → Ran L N C S S₁ → ((t i : ℕ) → t ≤ L .n → i < L .rows t → S₂ t i ≡ S₁ t i) → Ran L N C S S₂
   ran-like N C S S₁ S₂ x e = record {
@@ -187,7 +138,7 @@ module _ {Row : Type 0} (L : Model Row) (law : Laws L) where
     kept = λ m i hm hi w. e (suc m) i hm hi ∙ x .kept m i hm hi w;
   }
 
-  -- ---- what every history keeps
+  -- ---- what each call keeps
 
   -- A step that recomputes nothing: bands that only widen, rows outside the new grown bands as they were, and outside them the same
   -- parameters and zero-points.
@@ -207,7 +158,7 @@ module _ {Row : Type 0} (L : Model Row) (law : Laws L) where
       let ht : t ≤ m = law .reads-before m i t r hm hi x in
       same t r (omega arith) hr (λ v. w (reached m i t r (s′ .bands) hm hi x v)))
 
-  kept-change : (a e : ℕ) (s s′ : Sys L) → Changed L a e s s′ → Kept L s → Kept L s′
+  pub kept-change : (a e : ℕ) (s s′ : Sys L) → Changed L a e s s′ → Kept L s → Kept L s′
   kept-change a e s s′ c =
       still s s′ wider same
       (λ m i hm hi w. (ap (λ N. L .par N m) (sym (c .net)), ap (λ N. L .zp N m) (sym (c .net)), ap (λ N. L .zp N (L .other m)) (sym (c .net))))
@@ -219,11 +170,6 @@ module _ {Row : Type 0} (L : Model Row) (law : Laws L) where
       same : (t i : ℕ) → t ≤ L .n → i < L .rows t → (In i (grownOf L (s′ .bands) t) → ⊥) → s .store t i ≡ s′ .store t i
       same zero i ht hi w = sym (c .outside i hi (λ v. w (own 0 (s′ .bands) i (rw (c .band-0) (cover-right _ _ i v)))))
       same (suc m) i ht hi w = sym (c .layers m i ht hi)
-
-  kept-same : (s s′ : Sys L) → Same L s s′ → Kept L s → Kept L s′
-  kept-same s s′ c =
-      still s s′ (λ t ht i w. rw (c .bands t ht) w) (λ t i ht hi w. sym (c .store t i ht hi))
-      (λ m i hm hi w. (ap (λ N. L .par N m) (sym (c .net)), ap (λ N. L .zp N m) (sym (c .net)), ap (λ N. L .zp N (L .other m)) (sym (c .net))))
 
   -- tensor t is stale in every row
   Stale : Bands → ℕ → Type 0
@@ -271,7 +217,7 @@ module _ {Row : Type 0} (L : Model Row) (law : Laws L) where
           | no e ↦ told M (omega arith) t (omega arith)
         ]
 
-    kept-replace : Kept L s → Kept L s′
+    pub kept-replace : Kept L s → Kept L s′
     unfolding Stale Told
     kept-replace = still s s′ wider (λ t i ht hi w. sym (c .store t i ht hi)) pars
       where
@@ -311,40 +257,11 @@ module _ {Row : Type 0} (L : Model Row) (law : Laws L) where
       same zero r ht hr w = sym (u .store .picture r hr)
       same (suc t) r ht hr w = sym (u .store .kept t r (omega arith) hr w)
 
-  kept-update : (s s′ : Sys L) → Updated L s s′ → Kept L s → Kept L s′
+  pub kept-update : (s s′ : Sys L) → Updated L s s′ → Kept L s → Kept L s′
   unfolding Kept
   kept-update s s′ u k m i hm hi w = all-made s s′ u k m i hm hi ∙ ap (λ N. L .rowOf N m (s′ .store) i) (sym (u .net))
 
-  kept-step : (s s′ : Sys L) → Step L s s′ → Kept L s → Kept L s′
-  kept-step s s′ (change a e c) = kept-change a e s s′ c
-  kept-step s s′ (replace k c) = kept-replace k s s′ c
-  kept-step s s′ (update c) = kept-update s s′ c
-  kept-step s s′ (nothing c) = kept-same s s′ c
-
-  kept-load : (s : Sys L) → ((t : ℕ) → t ≤ L .n → s .bands t ≡ whole L t) → Kept L s
+  -- bands that are all whole leave no row to say it of
+  pub kept-load : (s : Sys L) → ((t : ℕ) → t ≤ L .n → s .bands t ≡ whole L t) → Kept L s
   unfolding Kept
   kept-load s h m i hm hi w = absurd (w (own (suc m) (s .bands) i (rw (h (suc m) hm) (omega arith))))
-
-  -- the invariant: after any history each row outside the grown bands is what its layer makes of the stored rows
-  pub kept : (s : Sys L) → History L s → Kept L s
-  kept s (load h) = kept-load s h
-  kept s′ (then {s = s} h x) = kept-step s s′ x (kept s h)
-
-  -- the theorem: a clean state holds, in every tensor, what a fresh run over its picture gives
-  pub clean-is-ran : (s : Sys L) → History L s → ((t : ℕ) → t ≤ L .n → s .bands t ≡ none) → Ran L (s .net) (whole L) (s .store) (s .store)
-  unfolding Kept
-  clean-is-ran s h e = record {
-    picture = λ i hi. refl;
-    redone = λ m i hm hi w. kept s h m i hm hi (λ v. in-empty i none (omega arith) (grown-empty (L .n) (omega arith) (s .bands) e (suc m) hm i v));
-    kept = λ m i hm hi w. refl;
-  }
-
-  pub clean-is-fresh : (s : Sys L) → History L s → ((t : ℕ) → t ≤ L .n → s .bands t ≡ none)
-      → (t i : ℕ) → t ≤ L .n → i < L .rows t → s .store t i ≡ fresh L (s .net) (s .store) t i
-  clean-is-fresh s h e =
-      ran-once (s .net) (whole L) (s .store) (s .store) (fresh L (s .net) (s .store)) (clean-is-ran s h e) (fresh-meets (s .net) (s .store))
-
-  -- so an accepted reading is the last tensor of a fresh run
-  pub read-is-fresh : (s : Sys L) → History L s → ((t : ℕ) → t ≤ L .n → s .bands t ≡ none)
-      → (i : ℕ) → i < L .rows (L .n) → s .store (L .n) i ≡ fresh L (s .net) (s .store) (L .n) i
-  read-is-fresh s h e i hi = clean-is-fresh s h e (L .n) i (omega arith) hi

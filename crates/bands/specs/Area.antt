@@ -43,7 +43,3 @@ module _ (L : Model (List ℕ)) (Y : Layout) where
   unfoldable pub runArea : L .Net → Bands → ℕ → List ℕ → List ℕ
   runArea N C zero A = A
   runArea N C (suc m) A = redoRows N m (C (suc m) .first) (C (suc m) .end - C (suc m) .first) (runArea N C m A)
-
-  -- the last tensor
-  abbrev pub lastOf : List ℕ → List ℕ
-  lastOf A = take (L .rows (L .n) * Y .width (L .n)) (drop (Y .off (L .n)) A)

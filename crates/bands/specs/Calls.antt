@@ -1,4 +1,4 @@
--- The calls on what is kept: a network, the bytes of the area, the state. Each is stated as equations.
+-- The calls that change what is kept, a network, the bytes of the area and the state. Each is stated as equations.
 -- Assumes nothing.
 use Prim.Native.Nat.{ℕ, suc, _≤_, _<_, _+_, _*_}
 use mathlib.Core.Path.{_≡_}
@@ -8,7 +8,7 @@ use lib.ListN.{length}
 use lib.Seq.{sets}
 use Rattle.bands.specs.declared.state.State.{State}
 use Rattle.bands.specs.declared.state.Tensors.{Tensors}
-use Rattle.bands.specs.State.{bandOf, rowsOf, allEmpty, loaded, changed, replaced}
+use Rattle.bands.specs.State.{bandOf, rowsOf, allEmpty, changed, replaced}
 use Rattle.bands.specs.History.{Model, grownOf}
 use Rattle.bands.specs.Area.{Layout, place, Room, runArea}
 
@@ -29,12 +29,6 @@ module _ (L : Model (List ℕ)) (Y : Layout) where
     pub room : Room L Y (length (s .area))
     pub all : length (s .state .bands) ≡ 17
     pub within : (t : ℕ) → t ≤ L .n → bandOf (s .state) t .end ≤ L .rows t
-
-  pub record Loading (s : Held) : Type 0 where
-    pub few : L .n < 17
-    pub n : Tensors
-    pub tells : Tells n
-    pub state : s .state ≡ loaded n
 
   pub record Changing (first count : ℕ) (bytes : List ℕ) (s s′ : Held) : Type 0 where
     pub fit : Fit s
@@ -58,15 +52,3 @@ module _ (L : Model (List ℕ)) (Y : Layout) where
     pub net : s′ .net ≡ s .net
     pub area : s′ .area ≡ runArea L Y (s .net) (grownOf L (bandOf (s .state))) (L .n) (s .area)
     pub state : s′ .state ≡ allEmpty
-
-  -- a reading changes nothing, and neither does a call that is refused
-  pub data Call (s s′ : Held) : Type 0 where
-    changes : (first count : ℕ) (bytes : List ℕ) → Changing first count bytes s s′ → Call s s′
-    replaces : (k : ℕ) → Replacing k s s′ → Call s s′
-    updates : Updating s s′ → Call s s′
-    nothing : s′ ≡ s → Call s s′
-
-  -- what an accepted load and any calls after it lead to
-  pub data Calls : Held → Type 0 where
-    loads : {s : Held} → Loading s → Calls s
-    calls : {s s′ : Held} → Calls s → Call s s′ → Calls s′

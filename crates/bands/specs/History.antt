@@ -1,5 +1,5 @@
--- An incremental run over a chain of layers, over any layers that keep the laws of `Laws`: what the stale bands grow to, what an update does,
--- what a fresh run is, and what a load and any calls after it lead to.
+-- An incremental run over a chain of layers, over any layers that keep the laws of `Laws`: what the stale bands grow to, what an update and each
+-- other call do, and what all of them keep.
 -- Tensors are numbered from 0, the picture. Layer m, counted from 0, reads tensor m and tensor `other m` and makes tensor suc m.
 -- Assumes nothing.
 use mathlib.Core.Bool.{cond}
@@ -89,14 +89,6 @@ module _ {Row : Type 0} (L : Model Row) where
   abbrev pub whole : Bands
   whole t = band 0 (L .rows t)
 
-  -- every row of every layer in order, from the picture
-  unfoldable pub fresh : L .Net → Store → Store
-  fresh N S = runTo N whole (L .n) S
-
-  -- the rows in the grown bands, in layer order
-  unfoldable pub refreshed : L .Net → Bands → Store → Store
-  refreshed N B S = runTo N (grownOf B) (L .n) S
-
   -- S′ is S with exactly the rows in the bands C of the layers recomputed, each from what S′ holds
   pub record Ran (N : L .Net) (C : Bands) (S S′ : Store) : Type 0 where
     pub picture : (i : ℕ) → i < L .rows 0 → S′ 0 i ≡ S 0 i
@@ -131,23 +123,6 @@ module _ {Row : Type 0} (L : Model Row) where
     pub store : Ran (s .net) (grownOf (s .bands)) (s .store) (s′ .store)
     pub bands : (t : ℕ) → t ≤ L .n → s′ .bands t ≡ none
 
-  -- a reading, and each call that is refused
-  pub record Same (s s′ : Sys) : Type 0 where
-    pub net : s′ .net ≡ s .net
-    pub store : (t i : ℕ) → t ≤ L .n → i < L .rows t → s′ .store t i ≡ s .store t i
-    pub bands : (t : ℕ) → t ≤ L .n → s′ .bands t ≡ s .bands t
-
-  pub data Step (s s′ : Sys) : Type 0 where
-    change : (a e : ℕ) → Changed a e s s′ → Step s s′
-    replace : (k : ℕ) → Replaced k s s′ → Step s s′
-    update : Updated s s′ → Step s s′
-    nothing : Same s s′ → Step s s′
-
-  -- what a load and any calls after it lead to
-  pub data History : Sys → Type 0 where
-    load : {s : Sys} → ((t : ℕ) → t ≤ L .n → s .bands t ≡ whole t) → History s
-    then : {s s′ : Sys} → History s → Step s s′ → History s′
-
-  -- what every history keeps: each row outside the grown bands is what its layer makes of the stored rows
+  -- what a load begins with and each call keeps: each row outside the grown bands is what its layer makes of the stored rows
   unfoldable pub Kept : Sys → Type 0
   Kept s = (m i : ℕ) → m < L .n → i < L .rows (suc m) → (In i (grownOf (s .bands) (suc m)) → ⊥) → s .store (suc m) i ≡ L .rowOf (s .net) m (s .store) i

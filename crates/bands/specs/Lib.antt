@@ -1,5 +1,5 @@
 -- The definitions that the contracts of `bands` cite, in the order of document 01's section "Stale bands and calls";
--- then those that the history theorem is stated in.
+-- then those that what every history keeps is stated in.
 pub mod Choice
 pub mod Band
 pub mod State

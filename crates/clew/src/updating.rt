@@ -17,10 +17,10 @@ pub fn update(file: &[u8], sums: &[u32], area: &mut [u8], state: State) -> Outco
     if t.number != 0 {
         return plain(t.number, state);
     }
-    let ran = run(file, network, sums, area, state);
+    let count = run(file, network, sums, area, state);
     Outcome {
         number: 0,
-        count: ran.count,
+        count,
         state: all_empty(),
     }
 }

@@ -1,7 +1,7 @@
 -- A replacement that test 9 lets pass: what the file then holds, and that its network is like the one before.
 -- Assumes nothing.
 use Prim.Native.Nat.{ℕ, zero, suc, _<_}
-use mathlib.Core.Path.{_≡_, refl, _∙_, ap, subst, subst⁻¹}
+use mathlib.Core.Path.{_≡_, refl, _∙_, ap, subst⁻¹}
 use mathlib.Core.Logic.{_≢_}
 use mathlib.Core.List.{List}
 use native.Mathlib.Omega.{arith}
@@ -14,7 +14,6 @@ use Rattle.records.specs.declared.layer.Layer.{Layer}
 use Rattle.network.specs.Network.{layerOf, placeOf}
 use Rattle.network.specs.Decode.{decodeOf}
 use Rattle.network.specs.Replace.{replaceFault}
-use Rattle.network.specs.Taken.{Taken}
 use Rattle.network.specs.declared.net.Network.{Network}
 use Rattle.network.specs.declared.file.Decoded.{Decoded}
 use Rattle.network.proofs.Taken.{taken}
@@ -30,17 +29,6 @@ use Rattle.facts.proofs.Model.{Alike}
 -- a network is like itself
 pub alike-same : (n : Network) → Alike n n
 alike-same n = record { count = refl; area = refl; store = refl; tensors = λ t. refl; places = λ t. refl; links = λ m h. refl }
-
--- and like what is like one like it
-pub alike-then : (n n′ n″ : Network) → Alike n n′ → Alike n′ n″ → Alike n n″
-alike-then n n′ n″ a b = record {
-  count = b .count ∙ a .count;
-  area = b .area ∙ a .area;
-  store = b .store ∙ a .store;
-  tensors = λ t. b .tensors t ∙ a .tensors t;
-  places = λ t. b .places t ∙ a .places t;
-  links = λ m h. b .links m (omega (arith, a .count)) ∙ a .links m h;
-}
 
 -- a layer hangs on its inputs as before where its new parameters are framed as the old ones
 link-framed : (k : Kind) (y : Layer) (r : List ℕ) (m : ℕ) → Framed k r 0 → linkBy (kindFrom k r) (layerAs y (kindFrom k r)) m ≡ linkBy k y m
@@ -80,7 +68,7 @@ rewrittenFile s k r = pasted s (layerOf (decodeOf s .network) k .start) r
 
 -- what a replacement that passes leaves of the network of the file s
 pub record Exchanged (s : List ℕ) (k : ℕ) (r : List ℕ) (n′ : Network) : Type 0 where
-  pub taken : Taken (rewrittenFile s k r) n′
+  pub refusal : decodeOf (rewrittenFile s k r) .refusal ≡ 0
   pub alike : Alike (decodeOf s .network) n′
   pub head : n′ .zero ≡ decodeOf s .network .zero
   pub layer : layerOf n′ k ≡ layerAs (layerOf (decodeOf s .network) k) (kindFrom (layerOf (decodeOf s .network) k .kind) r)
@@ -127,7 +115,7 @@ module _
       let sixteen : k < length (n .layers) = omega (arith, taken s good .sixteen, taken s good .count-few) in
       subst⁻¹ (Exchanged s k r) e
       (record {
-        taken = subst (Taken (rewrittenFile s k r)) e (taken (rewrittenFile s k r) (ap (λ (d : Decoded). d .refusal) read-again));
+        refusal = ap (λ (d : Decoded). d .refusal) read-again;
         alike = alike-with n k r sixteen (passes-nine .frame);
         head = refl;
         layer = with-here n k κ sixteen;

@@ -2,6 +2,7 @@
 -- Assumes nothing.
 use Prim.Native.Nat.{ℕ, zero, suc, _≤_, _<_}
 use mathlib.Core.Path.{_≡_, refl}
+use mathlib.Core.Bool.{true}
 use mathlib.Core.List.{List}
 use native.Mathlib.Omega.{arith}
 use lib.ListN.{length}
@@ -13,14 +14,14 @@ use Rattle.network.specs.declared.net.Network.{Network}
 use Rattle.windows.specs.Lists.{joined}
 use Rattle.windows.proofs.Pasted.{pasted-nil}
 use Rattle.bands.specs.Band.{none, cover}
-use Rattle.bands.specs.State.{bandOf}
+use Rattle.bands.specs.State.{bandOf, clean}
 use Rattle.bands.specs.Grow.{grownBand, growOne, grown}
 use Rattle.bands.specs.declared.state.State.{State}
 use Rattle.bands.proofs.Reached.{reached-empty}
 use Rattle.bands.proofs.States.{with-each, clean-none}
 use Rattle.checks.specs.Tensors.{tensorsOf, linkOf}
 use Rattle.checks.proofs.Links.{link-ok}
-use Rattle.checks.proofs.Passed.{call-passed}
+use Rattle.checks.proofs.Passed.{CallPassed, call-passed}
 use Rattle.runs.specs.Run.{redone, updatedTo, countTo}
 use Rattle.runs.proofs.Counts.{bytes-in}
 use Rattle.clew.specs.Calls.{updateOf}
@@ -28,8 +29,13 @@ use Rattle.facts.specs.Demand3.{CleanUpdates}
 use Rattle.facts.proofs.Exact.{update-passed}
 
 -- the band of every tensor of the network is 0,0
-abbrev Clear : Network → State → Type 0
+abbrev pub Clear : Network → State → Type 0
 Clear n s = (t : ℕ) → t ≤ n .count → bandOf s t ≡ none
+
+-- a clean state that passed tests 1 to 6 has no other
+pub passed-clear :
+    (file sums : List ℕ) (room : ℕ) (s : State) → CallPassed file sums room s → clean s ≡ true → Clear (decodeOf file .network) s
+passed-clear file sums room s p z t h = clean-none s (tensorsOf (decodeOf file .network)) (p .state) z t (omega (arith, p .load .taken .count-few))
 
 -- no row of a band 0,0 is recomputed
 redone-none : (n : Network) (file sums : List ℕ) (m : ℕ) (area : List ℕ) → redone n file sums m none area ≡ area
@@ -47,7 +53,7 @@ module _ (file : List ℕ) (n : Network) (k : Taken file n) where
       with-each (λ u b. b ≡ none) s (suc m) (grownBand s y m) own t (c t ht)
 
   -- nor do the first m layers' steps
-  grown-clear : (s : State) (m : ℕ) → m ≤ n .count → Clear n s → Clear n (grown s (linkOf n) m)
+  pub grown-clear : (s : State) (m : ℕ) → m ≤ n .count → Clear n s → Clear n (grown s (linkOf n) m)
   unfolding grown
   grown-clear s zero h c = c
   grown-clear s (suc m) h c = step-clear (grown s (linkOf n) m) m h (grown-clear s m (omega arith) c)
@@ -76,5 +82,5 @@ clean-updates file sums area s e z =
     let fine = update-passed file sums area s e in
     let p = call-passed file sums (length area) s fine in
     let k = p .load .taken in
-    let c : Clear n s = λ t h. clean-none s (tensorsOf n) (p .state) z t (omega (arith, k .count-few)) in
+    let c = passed-clear file sums (length area) s p z in
     rw (fine, updated-clear file n k s c sums area (n .count) (omega arith), count-clear file n k s c (n .count) (omega arith))

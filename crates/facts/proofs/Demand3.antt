@@ -1,61 +1,52 @@
--- Demand 3: each accepted reading is the last tensor of a fresh run, and the sums are the present ones.
+-- Demand 3: a load begins a history, after any history each tensor of a clean state and each accepted reading is that of a fresh run, and the
+-- sums are the present ones.
 -- Assumes nothing.
 use Prim.Native.Nat.{ℕ, zero, suc}
-use mathlib.Core.Path.{_≡_, refl, sym, _∙_, ap}
-use mathlib.Core.Bool.{true}
-use mathlib.Core.List.{List}
+use mathlib.Core.Path.{_≡_, refl, sym, _∙_, ap₂}
 use native.Mathlib.Omega.{arith}
+use lib.ListN.{length}
 use Rattle.fields.proofs.Tests.{first-both}
-use Rattle.network.specs.Network.{tensorOf, placeOf}
-use Rattle.network.specs.declared.net.Network.{Network}
-use Rattle.layers.specs.Row.{tensorAt}
-use Rattle.bands.specs.State.{clean}
-use Rattle.bands.specs.Area.{lastOf}
-use Rattle.bands.proofs.Calls.{accepted-is-fresh}
-use Rattle.checks.specs.Tensors.{tensorsOf}
-use Rattle.checks.proofs.Passed.{stale-passed}
-use Rattle.clew.specs.Calls.{readOf, readBy}
-use Rattle.facts.specs.Fresh.{freshTo, freshReading}
-use Rattle.facts.specs.History.{System, networkOf}
-use Rattle.facts.specs.Demand3.{FreshReadings, PresentSums}
-use Rattle.facts.proofs.Model.{Alike, model, layout}
-use Rattle.facts.proofs.Laws.{model-laws, model-laid}
-use Rattle.facts.proofs.Runs.{fresh-is, last-is}
-use Rattle.facts.proofs.Stored.{true-all}
-use Rattle.facts.proofs.Steps.{heldOf, Passed, passed, readFault, fit-passed, Began, began}
+use Rattle.network.specs.Decode.{decodeOf}
+use Rattle.checks.specs.Tests.{loadFault}
+use Rattle.checks.proofs.Passed.{load-passed, stale-passed}
+use Rattle.clew.specs.Calls.{loadOf, loadBy, readOf, readBy}
+use Rattle.facts.specs.Fresh.{freshReading}
+use Rattle.facts.specs.History.{networkOf, pictureOf, afterLoad, Keeps}
+use Rattle.facts.specs.Demand3.{LoadsBegin, FreshTensors, FreshReadings, SameReadings, PresentSums}
+use Rattle.facts.proofs.Clean.{passed-clear, grown-clear}
+use Rattle.facts.proofs.Fresh.{all-fresh}
+use Rattle.facts.proofs.Steps.{passed, readFault, keeps-load, kept}
+
+-- an accepted load begins a history
+pub loads-begin : LoadsBegin
+unfolding loadOf
+loads-begin file sums area = go _ refl
+  where
+    go :
+        (f : ℕ) →
+        loadFault file (length sums) (length area) ≡ f →
+        loadBy f (decodeOf file .network) file sums .0 .number ≡ 0 →
+        Keeps (afterLoad file area (loadBy f (decodeOf file .network) file sums))
+    go zero e h = keeps-load file sums area (load-passed file (length sums) (length area) e)
+    go (suc f) e h = absurd (omega arith)
 
 -- all weight sums are the present ones
 pub present-sums : PresentSums
-present-sums s h = let k = began s h .kept in true-all (s .file) (networkOf s) (k .taken) (s .sums) (k .sums)
+present-sums s h = kept s h .sums
 
--- the last tensor of a network like n
-last-alike :
-    (n n′ : Network) (area : List ℕ) →
-    Alike n n′ →
-    tensorAt area (placeOf n′ (n′ .count)) (tensorOf n′ (n′ .count)) ≡ lastOf (model n) (layout n) area
-last-alike n n′ area a =
-    ap (λ (m : ℕ). tensorAt area (placeOf n′ m) (tensorOf n′ m)) (a .count) ∙
-    rw (a .places (n .count), a .tensors (n .count)) (sym (last-is n area))
-
--- what a clean state that passed tests 1 to 6 has for its last tensor
-clean-fresh :
-    (s : System) →
-    Began s →
-    Passed s →
-    clean (s .state) ≡ true →
-    tensorAt (s .area) (placeOf (networkOf s) (networkOf s .count)) (tensorOf (networkOf s) (networkOf s .count)) ≡ freshReading (s .file) (s .area)
-clean-fresh s b c e =
-    let n = b .n in
-    let n′ = networkOf s in
-    let k = b .kept in
-    let x = heldOf n s (k .taken) (k .alike) in
-    last-alike n n′ (s .area) (k .alike) ∙
-    accepted-is-fresh (model n) (layout n) (model-laws (b .file) n (b .begun)) (model-laid (b .file) n (b .begun)) x (tensorsOf n′) (k .history)
-    (fit-passed (b .file) n (b .begun) s k c) (c .state) e ∙
-    ap (lastOf (model n) (layout n))
-    (fresh-is (b .file) n (b .begun) (x .net) (s .area) (k .room) (true-all (s .file) n′ (k .taken) (s .sums) (k .sums)) (n .count) (omega arith)) ∙
-    ap (λ (m : ℕ). lastOf (model n) (layout n) (freshTo n′ (s .file) m (s .area))) (sym (k .alike .count)) ∙
-    sym (last-alike n n′ (freshTo n′ (s .file) (n′ .count) (s .area)) (k .alike))
+-- no band of a clean state has a row, so each row is what its layer makes
+pub fresh-tensors : FreshTensors
+fresh-tensors s h f c t g =
+    let n = networkOf s in
+    let k = kept s h in
+    let p = passed s f in
+    let taken = p .load .taken in
+    let clear = passed-clear (s .file) (s .sums) (length (s .area)) (s .state) p c in
+    all-fresh (s .file) n taken (s .sums) (s .area) (k .area-in) (k .sums)
+    (λ m i hm hi. k .rows m i hm hi (λ w.
+    let none = grown-clear (s .file) n taken (s .state) (suc m) hm clear (suc m) hm in
+    omega (arith, rw none at w)))
+    t t g (omega arith)
 
 -- each accepted reading is the last tensor of a fresh run
 pub fresh-readings : FreshReadings
@@ -66,9 +57,14 @@ fresh-readings s out h = go (readFault s out) refl
         (f : ℕ) →
         readFault s out ≡ f →
         readBy f (networkOf s) (s .area) (s .state) out .0 .number ≡ 0 →
-        readBy f (networkOf s) (s .area) (s .state) out .1 ≡ freshReading (s .file) (s .area)
+        readBy f (networkOf s) (s .area) (s .state) out .1 ≡ freshReading (s .file) (pictureOf s)
     go zero e z =
         let q = first-both _ _ e in
         let p = first-both _ _ (q .1) in
-        clean-fresh s (began s h) (passed s (q .0)) (stale-passed (s .state) (p .1))
+        fresh-tensors s h (q .0) (stale-passed (s .state) (p .1)) (networkOf s .count) (omega arith)
     go (suc f) e z = absurd (omega arith)
+
+-- so the same network and picture give the same reading
+pub same-readings : SameReadings
+same-readings s s′ out out′ h h′ e p z z′ =
+    fresh-readings s out h z ∙ ap₂ freshReading e p ∙ sym (fresh-readings s′ out′ h′ z′)

@@ -14,4 +14,5 @@ pub mod Exact
 pub mod Clean
 pub mod Stored
 pub mod Steps
+pub mod Fresh
 pub mod Demand3

@@ -1,45 +1,41 @@
--- A run of the model over the bytes of an area is what the calls do: an update's, over the grown bands, and a fresh run's, over all rows.
+-- A run of the model over the bytes of an area and the grown bands is what an update does.
 -- Assumes nothing.
 use Prim.Native.Nat.{ℕ, zero, suc, _+_, _-_, _*_, _≤_, _<_}
 use mathlib.Core.Path.{_≡_, refl, sym, _∙_, ap, ap₂}
 use mathlib.Core.List.{List}
-use native.Mathlib.Nat.{mul-le-mul-right, zero-add}
+use native.Mathlib.Nat.{mul-le-mul-right}
 use native.Mathlib.Omega.{arith}
 use lib.ListN.{length}
-use lib.Seq.{sets, sets-eq, take-all}
+use lib.Seq.{sets, sets-eq}
 use Rattle.fields.specs.Shape.{bytesOf, rowBytes}
-use Rattle.records.specs.Layer.{sumsOf, recordLen}
 use Rattle.fields.specs.declared.shape.Shape.{Shape}
 use Rattle.records.specs.declared.layer.Layer.{Layer}
 use Rattle.network.specs.Network.{layerOf, tensorOf, placeOf, zeroOf}
 use Rattle.network.specs.Taken.{Taken}
 use Rattle.network.specs.declared.net.Network.{Network}
 use Rattle.network.proofs.Places.{tensors-in}
-use Rattle.windows.specs.Lists.{pasted, joined, part}
-use Rattle.windows.proofs.Pasted.{pasted-nil, pasted-length, pasted-more, joined-same}
-use Rattle.layers.specs.Row.{rowOf, tensorAt}
-use Rattle.layers.proofs.Local.{part-inside}
+use Rattle.windows.specs.Lists.{pasted, joined}
+use Rattle.windows.proofs.Pasted.{pasted-nil, pasted-length, pasted-more}
+use Rattle.layers.specs.Row.{rowOf}
 use Rattle.bands.specs.declared.band.Band.{Band}
 use Rattle.bands.specs.declared.reach.Link.{Link}
 use Rattle.bands.specs.declared.state.State.{State}
 use Rattle.bands.specs.State.{bandOf}
 use Rattle.bands.specs.Grow.{growOne, grown}
-use Rattle.bands.specs.History.{Bands, grownOf, whole}
-use Rattle.bands.specs.Area.{view, redoRow, redoRows, runArea, lastOf}
+use Rattle.bands.specs.History.{Bands, grownOf}
+use Rattle.bands.specs.Area.{view, redoRow, redoRows, runArea}
 use Rattle.bands.proofs.Area.{row-then, length-run}
 use Rattle.bands.proofs.Grow.{grown-is}
 use Rattle.bands.specs.Windows.{rowsIn}
 use Rattle.checks.specs.Tensors.{linkOf}
 use Rattle.checks.proofs.Links.{chainOf, chain-rows}
-use Rattle.runs.specs.Run.{networkSums, rowFrom, redone, grownBandOf, updatedTo, Fair}
+use Rattle.runs.specs.Run.{tensorIn, rowFrom, redone, grownBandOf, updatedTo, Fair}
 use Rattle.runs.proofs.Areas.{rows-length}
 use Rattle.runs.proofs.Fairs.{Fits, grown-fair}
-use Rattle.runs.proofs.Fills.{network-sums-length}
 use Rattle.runs.proofs.Ready.{other-shape}
-use Rattle.facts.specs.Fresh.{freshTensor, freshTo}
-use Rattle.facts.proofs.Model.{Present, netOf, tensorFrom, parOf, rowWith, model, layout}
+use Rattle.facts.proofs.Model.{Alike, Present, netOf, tensorFrom, parOf, rowWith, model, layout}
 use Rattle.facts.proofs.Tensors.{rows-bytes, tensor-there}
-use Rattle.facts.proofs.Laws.{chain-bytes, there, input-is, model-laws, model-laid, model-room}
+use Rattle.facts.proofs.Laws.{there, input-is, model-laws, model-laid, model-room}
 
 -- a run of stores is a part pasted in
 pub sets-pasted : (d : List ℕ) (at : ℕ) (s : List ℕ) → at + length s ≤ length d → sets d at s ≡ pasted d at s
@@ -64,9 +60,9 @@ module _ (n : Network) (p : Present n) (area : List ℕ) where
       t ≤ n .count →
       tensorOf n t ≡ tensorOf n m →
       n .area ≤ length area →
-      tensorFrom (tensorOf n m) (view (layout n) area t) ≡ tensorAt area (placeOf (netOf p) t) (tensorOf (netOf p) m)
+      tensorFrom (tensorOf n m) (view (layout n) area t) ≡ tensorIn (netOf p) area t
   seen m t h e room =
-      rw (p .alike .places t, p .alike .tensors m, ← e)
+      rw (p .alike .places t, p .alike .tensors t, ← e)
       (tensor-there (tensorOf n t) area (placeOf n t) (omega (arith, tensor-in p t h)))
 
   -- the model's row of what stands in the area is the layer's
@@ -87,8 +83,7 @@ module _ (n : Network) (p : Present n) (area : List ℕ) where
       (seen m m (omega arith) refl room) (seen m j (omega arith) same room) ∙
       ap
       (λ (l : Link).
-      rowOf (layerOf net m) (zeroOf net m) (zeroOf net (l .other)) (p .file) (p .sums) (tensorAt area (placeOf net m) (tensorOf net m))
-      (tensorAt area (placeOf net (l .other)) (tensorOf net m)) i)
+      rowOf (layerOf net m) (zeroOf net m) (zeroOf net (l .other)) (p .file) (p .sums) (tensorIn net area m) (tensorIn net area (l .other)) i)
       (sym el)
 
 module _ (file : List ℕ) (n : Network) (taken : Taken file n) (p : Present n) where
@@ -144,129 +139,35 @@ module _ (file : List ℕ) (n : Network) (taken : Taken file n) (p : Present n) 
         ap₂ (λ (at : ℕ) (x : Shape). pasted area (at + b .first * rowBytes x) (joined (b .end - b .first) (λ i. row (b .first + i))))
         (sym (p .alike .places (suc m))) (sym (p .alike .tensors (suc m)))
 
-  -- a run of the model over bands within the tensors, of areas each of which is the one before with a layer's rows recomputed
-  run-as :
-      (C : Bands) (area : List ℕ) (to : ℕ → List ℕ) →
-      n .area ≤ length area →
-      ((m : ℕ) → m < n .count → Fits (tensorOf n (suc m) .rows) (C (suc m))) →
-      to 0 ≡ area →
-      ((m : ℕ) → m < n .count → n .area ≤ length (to m) → redone (netOf p) (p .file) (p .sums) m (C (suc m)) (to m) ≡ to (suc m)) →
-      (m : ℕ) →
-      m ≤ n .count →
-      runArea (model n) (layout n) p C m area ≡ to m
-  unfolding runArea
-  run-as C area to room fits start step zero h = sym start
-  run-as C area to room fits start step (suc m) h =
-      let before = run-as C area to room fits start step m (omega arith) in
-      let same = length-run (model n) (layout n) p C m area in
-      redone-is m (runArea (model n) (layout n) p C m area) h (omega (arith, same)) (C (suc m)) (fits m h) ∙
-      ap (redone (netOf p) (p .file) (p .sums) m (C (suc m))) before ∙
-      step m h (omega (arith, same, ap length before))
-
 -- ---- an update
 
--- bands grow alike over the same links
-grown-alike : (s : State) (l l′ : ℕ → Link) (m : ℕ) → ((k : ℕ) → k < m → l k ≡ l′ k) → grown s l m ≡ grown s l′ m
+-- bands grow alike over networks alike
+pub grown-alike : (n n′ : Network) → Alike n n′ → (s : State) (m : ℕ) → m ≤ n .count → grown s (linkOf n) m ≡ grown s (linkOf n′) m
 unfolding grown
-grown-alike s l l′ zero e = refl
-grown-alike s l l′ (suc m) e = ap₂ (λ (x : State) (y : Link). growOne x y m) (grown-alike s l l′ m (λ k g. e k (omega arith))) (e m (omega arith))
+grown-alike n n′ a s zero h = refl
+grown-alike n n′ a s (suc m) h =
+    ap₂ (λ (x : State) (y : Link). growOne x y m) (grown-alike n n′ a s m (omega arith)) (sym (a .links m h))
 
-module _ (file : List ℕ) (n : Network) (taken : Taken file n) (p : Present n) (s : State) (area : List ℕ) (fair : Fair n s) (room : n .area ≤ length area) where
-  -- a run of the model over the grown bands is an update's
-  pub run-over :
-      (C : Bands) →
-      ((t : ℕ) → t ≤ n .count → C t ≡ grownBandOf n s t) →
-      (m : ℕ) →
-      m ≤ n .count →
-      runArea (model n) (layout n) p C m area ≡ updatedTo (netOf p) (p .file) (p .sums) s m area
-  unfolding updatedTo
-  run-over C e =
-      run-as file n taken p C area (λ m. updatedTo (netOf p) (p .file) (p .sums) s m area) room
-      (λ m h. rw (e (suc m) h) (grown-fair file n taken s (suc m) h fair (suc m) h))
-      refl
-      (λ m h _. ap (λ (b : Band). redone (netOf p) (p .file) (p .sums) m b (updatedTo (netOf p) (p .file) (p .sums) s m area)) (e (suc m) h ∙ like m h))
-    where
-      like : (m : ℕ) → m < n .count → grownBandOf n s (suc m) ≡ grownBandOf (netOf p) s (suc m)
-      like m h =
-          ap (λ (x : State). bandOf x (suc m)) (grown-alike s (linkOf n) (linkOf (netOf p)) (suc m) (λ k g. sym (p .alike .links k (omega arith))))
+-- the bands that the model grows are an update's
+pub model-grown :
+    (n : Network) (s : State) (t : ℕ) → n .count < length (s .bands) → t ≤ n .count → grownOf (model n) (bandOf s) t ≡ grownBandOf n s t
+model-grown n s t few h =
+    sym
+    (grown-is (List ℕ) (Present n) (Layer × List ℕ × List ℕ) ℕ (chainOf n) (parOf n) (λ q. zeroOf (netOf q)) (rowWith n) s few t t h (omega arith))
 
-  -- so an update is the model's, over the bands that the model grows
-  pub run-is :
-      length (s .bands) ≡ 17 →
-      (m : ℕ) →
-      m ≤ n .count →
-      runArea (model n) (layout n) p (grownOf (model n) (bandOf s)) m area ≡ updatedTo (netOf p) (p .file) (p .sums) s m area
-  run-is all =
-      run-over (grownOf (model n) (bandOf s)) (λ t h. sym
-      (grown-is (List ℕ) (Present n) (Layer × List ℕ × List ℕ) ℕ (chainOf n) (parOf n) (λ q. zeroOf (netOf q)) (rowWith n) s
-      (omega (arith, taken .count-few)) t t h (omega arith)))
-
--- ---- a fresh run
-
-module _ (file : List ℕ) (n : Network) (taken : Taken file n) (p : Present n) (true-sums : part (p .sums) 0 (netOf p .store) ≡ networkSums (netOf p) (p .file)) where
-  -- the same network with nothing but the true sums
-  abbrev pure : Present n
-  pure = record { file = p .file; sums = networkSums (netOf p) (p .file); taken = p .taken; alike = p .alike }
-
-  -- has the same parameters
-  pure-par : (m : ℕ) → m < n .count → parOf n p m ≡ parOf n pure m
-  pure-par m h =
-      let net = netOf p in
-      let y = layerOf net m in
-      let all = networkSums net (p .file) in
-      let whole-sums : part (p .sums) 0 (net .store) ≡ part all 0 (net .store) =
-      true-sums ∙ sym (take-all (net .store) all (omega (arith, network-sums-length (p .file) net (p .taken)))) in
-      ap (λ (l : List ℕ). (y, part (p .file) (y .start) (recordLen y), l))
-      (part-inside (p .sums) all 0 (net .store) whole-sums (y .sums) (sumsOf (y .kind)) (omega arith)
-      (omega (arith, p .taken .layers m (there p m h) .sums-end)))
-
-  -- so a row is the one that the true sums give
-  pure-row :
-      (area : List ℕ) (m i : ℕ) →
-      n .area ≤ length area →
-      m < n .count →
-      i < tensorOf (netOf p) (suc m) .rows →
-      rowFrom (netOf p) (p .file) (p .sums) m area i ≡ rowFrom (netOf p) (p .file) (networkSums (netOf p) (p .file)) m area i
-  pure-row area m i room h g =
-      sym (row-is n p area m i room h) ∙
-      model-laws file n taken .row-local p pure (view (layout n) area) (view (layout n) area) m i h
-      (omega (arith, chain-rows n (suc m), ap (λ (x : Shape). x .rows) (p .alike .tensors (suc m))))
-      (pure-par m h) refl refl (λ t r w k. refl) ∙
-      row-is n pure area m i room h
-
-  -- a layer's rows, all recomputed, are its tensor of a fresh run
-  all-redone :
-      (area : List ℕ) (m : ℕ) →
-      n .area ≤ length area →
-      m < n .count →
-      redone (netOf p) (p .file) (p .sums) m (whole (model n) (suc m)) area
-      ≡ pasted area (placeOf (netOf p) (suc m)) (freshTensor (netOf p) (p .file) m area)
-  unfolding redone
-  all-redone area m room h =
-      let net = netOf p in
-      let w = rowBytes (tensorOf net (suc m)) in
-      let at : placeOf net (suc m) + 0 * w ≡ placeOf net (suc m) = omega arith in
-      let all : rowsIn (chainOf n) (suc m) - 0 ≡ tensorOf net (suc m) .rows =
-      omega (arith, chain-rows n (suc m), ap (λ (x : Shape). x .rows) (p .alike .tensors (suc m))) in
-      ap₂ (λ (a k : ℕ). pasted area a (joined k (λ i. rowFrom net (p .file) (p .sums) m area (0 + i)))) at all ∙
-      ap (pasted area (placeOf net (suc m)))
-      (joined-same (tensorOf net (suc m) .rows)
-      (λ i g. ap (rowFrom net (p .file) (p .sums) m area) (zero-add i) ∙ pure-row area m i room h g))
-
-module _ (file : List ℕ) (n : Network) (taken : Taken file n) (p : Present n) (area : List ℕ) (room : n .area ≤ length area) where
-  -- a run of the model over all rows is a fresh run
-  pub fresh-is :
-      part (p .sums) 0 (netOf p .store) ≡ networkSums (netOf p) (p .file) →
-      (m : ℕ) →
-      m ≤ n .count →
-      runArea (model n) (layout n) p (whole (model n)) m area ≡ freshTo (netOf p) (p .file) m area
-  unfolding freshTo
-  fresh-is true-sums =
-      run-as file n taken p (whole (model n)) area (λ m. freshTo (netOf p) (p .file) m area) room
-      (λ m h. (omega arith, omega (arith, chain-rows n (suc m)))) refl
-      (λ m h enough. all-redone file n taken p true-sums (freshTo (netOf p) (p .file) m area) m enough h)
-
--- ---- the last tensor
-
-pub last-is : (n : Network) (area : List ℕ) → lastOf (model n) (layout n) area ≡ tensorAt area (placeOf n (n .count)) (tensorOf n (n .count))
-last-is n area = ap (part area (placeOf n (n .count))) (chain-bytes n (n .count))
+-- a run of the model over the grown bands is an update's
+pub run-over :
+    (file : List ℕ) (n : Network) → Taken file n → (p : Present n) (s : State) (area : List ℕ) → Fair n s → n .area ≤ length area →
+    (C : Bands) →
+    ((t : ℕ) → t ≤ n .count → C t ≡ grownBandOf n s t) →
+    (m : ℕ) →
+    m ≤ n .count →
+    runArea (model n) (layout n) p C m area ≡ updatedTo (netOf p) (p .file) (p .sums) s m area
+unfolding runArea updatedTo
+run-over file n taken p s area fair room C e zero h = refl
+run-over file n taken p s area fair room C e (suc m) h =
+    let like : grownBandOf n s (suc m) ≡ grownBandOf (netOf p) s (suc m) =
+    ap (λ (x : State). bandOf x (suc m)) (grown-alike n (netOf p) (p .alike) s (suc m) h) in
+    redone-is file n taken p m (runArea (model n) (layout n) p C m area) h (omega (arith, length-run (model n) (layout n) p C m area)) (C (suc m))
+    (rw (e (suc m) h) (grown-fair file n taken s (suc m) h fair (suc m) h)) ∙
+    ap₂ (redone (netOf p) (p .file) (p .sums) m) (e (suc m) h ∙ like) (run-over file n taken p s area fair room C e m (omega arith))

@@ -1,7 +1,7 @@
 -- Demand 2, as statements: each recomputed byte is the one that the published integer scheme gives, no total leaves signed 32 bits, and how far
 -- a rescaled number is from the exact product. The proofs stand in proofs/Demand2.antt.
 -- Assumes nothing.
-use Prim.Native.Nat.{ℕ, suc, _+_, _*_, _^_, _≤_, _<_}
+use Prim.Native.Nat.{ℕ, _+_, _*_, _^_, _≤_, _<_}
 use mathlib.Core.Path.{_≡_}
 use mathlib.Core.List.{List, [], _∷_}
 use lib.IntN.{ℤ, pos, natAbs, _+ℤ_, _-ℤ_, _*ℤ_}
@@ -18,20 +18,19 @@ use Rattle.records.specs.Layer.{sumsOf}
 use Rattle.records.specs.declared.layer.Kind.{Kind}
 use Rattle.records.specs.declared.layer.Kind.the-variants.{Convolution, Fully, Addition}
 use Rattle.records.specs.declared.layer.Layer.{Layer}
-use Rattle.network.specs.Network.{layerOf, tensorOf, placeOf, zeroOf}
+use Rattle.network.specs.Network.{layerOf, zeroOf}
 use Rattle.network.specs.Decode.{decodeOf}
 use Rattle.network.specs.declared.net.Network.{Network}
 use Rattle.layers.specs.Outputs.{weightsOf, totalAt}
 use Rattle.layers.specs.Conv.{windowFor, convOutputs}
 use Rattle.layers.specs.Full.{fullOutputs}
 use Rattle.layers.specs.Add.{addRow}
-use Rattle.layers.specs.Row.{tensorAt}
 use Rattle.layers.specs.Sums.{layerSums}
 use Rattle.layers.specs.declared.outputs.Outputs.{Outputs}
 use Rattle.bands.specs.declared.state.State.{State}
 use Rattle.checks.specs.Tensors.{linkOf}
 use Rattle.checks.specs.Tests.{callFault}
-use Rattle.runs.specs.Run.{rowFrom}
+use Rattle.runs.specs.Run.{tensorIn, rowFrom}
 
 -- output f at a window q: the direct sum of offset products plus bias, rescaled and finished. No stored sum stands in it
 abbrev pub directByte : Outputs → List ℕ → List ℕ → ℕ → ℕ
@@ -54,9 +53,7 @@ directBy (Addition a) y z z′ file t t′ i = addRow a z z′ (rowBytes (y .out
 abbrev pub directFrom : Network → List ℕ → ℕ → List ℕ → ℕ → List ℕ
 directFrom n file m area i =
     directBy (layerOf n m .kind) (layerOf n m) (zeroOf n m) (zeroOf n (linkOf n m .other)) file
-    (tensorAt area (placeOf n m) (tensorOf n m))
-    (tensorAt area (placeOf n (linkOf n m .other)) (tensorOf n m))
-    i
+    (tensorIn n area m) (tensorIn n area (linkOf n m .other)) i
 
 -- the store holds the true sums of layer m
 abbrev pub TrueSums : Network → List ℕ → List ℕ → ℕ → Type 0
@@ -89,7 +86,7 @@ TotalsFit = (file sums area : List ℕ) (s : State) → AllBytes file → AllByt
     → (m : ℕ) → m < decodeOf file .network .count
     → TotalsBy (layerOf (decodeOf file .network) m .kind) (layerOf (decodeOf file .network) m)
     (zeroOf (decodeOf file .network) m) (zeroOf (decodeOf file .network) (linkOf (decodeOf file .network) m .other)) file sums
-    (tensorAt area (placeOf (decodeOf file .network) m) (tensorOf (decodeOf file .network) m))
+    (tensorIn (decodeOf file .network) area m)
 
 -- twice the distance from the exact product, times 2^(31+n): at most 2^31 if n is 0, otherwise 2^(31+n) + 2^31
 abbrev pub Distances : Type 0

@@ -1,34 +1,46 @@
 -- Demand 3, as statements. Their proofs stand in proofs/Demand3.antt, proofs/Exact.antt and proofs/Clean.antt.
 -- Assumes nothing.
-use Prim.Native.Nat.{ℕ, suc, _+_, _*_, _≤_, _<_}
+use Prim.Native.Nat.{ℕ, suc, _≤_, _<_}
 use mathlib.Core.Path.{_≡_}
 use mathlib.Core.Bool.{true}
 use mathlib.Core.List.{List}
 use lib.ListN.{length, drop}
-use Rattle.network.specs.Network.{tensorOf, placeOf}
+use Rattle.network.specs.Network.{tensorOf}
 use Rattle.network.specs.Decode.{decodeOf}
 use Rattle.network.specs.declared.net.Network.{Network}
 use Rattle.windows.specs.Lists.{part}
-use Rattle.fields.specs.Shape.{bytesOf, rowBytes}
+use Rattle.fields.specs.Shape.{bytesOf}
 use Rattle.bands.specs.Within.{In}
 use Rattle.bands.specs.State.{allEmpty, clean}
 use Rattle.bands.specs.declared.state.State.{State}
-use Rattle.runs.specs.Run.{networkSums, rowFrom, grownBandOf, countTo}
-use Rattle.clew.specs.Calls.{outcome, updateOf}
-use Rattle.facts.specs.Fresh.{freshReading}
-use Rattle.facts.specs.History.{System, networkOf, readFrom, Reached}
+use Rattle.checks.specs.Tests.{callFault}
+use Rattle.runs.specs.Run.{networkSums, tensorIn, rowIn, rowFrom, grownBandOf, countTo}
+use Rattle.clew.specs.Calls.{outcome, loadOf, updateOf}
+use Rattle.facts.specs.Fresh.{freshTensor, freshReading}
+use Rattle.facts.specs.History.{System, networkOf, pictureOf, readFrom, afterLoad, Keeps, Reached}
 
--- each accepted reading is the last tensor of a fresh run over the present network and picture
+-- after an accepted load a history may begin
+abbrev pub LoadsBegin : Type 0
+LoadsBegin = (file sums area : List ℕ) → loadOf file sums area .0 .number ≡ 0 → Keeps (afterLoad file area (loadOf file sums area))
+
+-- where tests 1 to 6 pass and the state is clean, each tensor is that of a fresh run over the present network and picture
+abbrev pub FreshTensors : Type 0
+FreshTensors = (s : System) → Reached s → callFault (s .file) (s .sums) (length (s .area)) (s .state) ≡ 0 → clean (s .state) ≡ true
+    → (t : ℕ) → t ≤ networkOf s .count
+    → tensorIn (networkOf s) (s .area) t ≡ freshTensor (networkOf s) (s .file) (networkSums (networkOf s) (s .file)) (pictureOf s) t
+
+-- so each accepted reading is its last tensor
 abbrev pub FreshReadings : Type 0
-FreshReadings = (s : System) (out : List ℕ) → Reached s → readFrom s out .0 .number ≡ 0 → readFrom s out .1 ≡ freshReading (s .file) (s .area)
+FreshReadings = (s : System) (out : List ℕ) → Reached s → readFrom s out .0 .number ≡ 0 → readFrom s out .1 ≡ freshReading (s .file) (pictureOf s)
 
--- and all weight sums are the present ones
+-- and nobody can tell two systems apart that hold the same network and picture
+abbrev pub SameReadings : Type 0
+SameReadings = (s s′ : System) (out out′ : List ℕ) → Reached s → Reached s′ → s .file ≡ s′ .file → pictureOf s ≡ pictureOf s′
+    → readFrom s out .0 .number ≡ 0 → readFrom s′ out′ .0 .number ≡ 0 → readFrom s out .1 ≡ readFrom s′ out′ .1
+
+-- all weight sums are the present ones
 abbrev pub PresentSums : Type 0
 PresentSums = (s : System) → Reached s → part (s .sums) 0 (networkOf s .store) ≡ networkSums (networkOf s) (s .file)
-
--- row i of tensor t in an area
-abbrev pub rowIn : Network → List ℕ → ℕ → ℕ → List ℕ
-rowIn n area t i = part area (placeOf n t + i * rowBytes (tensorOf n t)) (rowBytes (tensorOf n t))
 
 -- an area after an update from the bands of s: exactly the rows of the grown bands are rewritten
 pub record Rewritten (n : Network) (file sums : List ℕ) (s : State) (area area′ : List ℕ) : Type 0 where

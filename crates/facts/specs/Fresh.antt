@@ -1,27 +1,28 @@
--- A fresh run: every row of every layer, in layer order, worked from the picture now in the area with the true sums. It uses no bands.
+-- A fresh run: every row of every layer, in layer order, worked from a picture with the sums given. It uses no bands and no area.
 -- Assumes nothing.
 use Prim.Native.Nat.{ℕ, zero, suc}
-use mathlib.Core.List.{List}
-use Rattle.network.specs.Network.{tensorOf, placeOf}
+use mathlib.Core.List.{List, [], _∷_, _++_}
+use lib.ListN.{getD}
+use Rattle.network.specs.Network.{tensorOf}
 use Rattle.network.specs.Decode.{decodeOf}
 use Rattle.network.specs.declared.net.Network.{Network}
-use Rattle.windows.specs.Lists.{pasted, joined}
-use Rattle.layers.specs.Row.{tensorAt}
-use Rattle.runs.specs.Run.{networkSums, rowFrom}
+use Rattle.windows.specs.Lists.{joined}
+use Rattle.runs.specs.Run.{networkSums, rowOver}
 
--- the tensor that layer m makes: every row, from the tensors in the area and the true sums
-abbrev pub freshTensor : Network → List ℕ → ℕ → List ℕ → List ℕ
-freshTensor n file m area = joined (tensorOf n (suc m) .rows) (rowFrom n file (networkSums n file) m area)
+-- the tensor that layer m makes of the tensors before it: every row
+abbrev pub freshLayer : Network → List ℕ → List ℕ → ℕ → List (List ℕ) → List ℕ
+freshLayer n file sums m tensors = joined (tensorOf n (suc m) .rows) (rowOver n file sums m (λ t. getD tensors t []))
 
--- the area after the first m layers
-unfoldable pub freshTo : Network → List ℕ → ℕ → List ℕ → List ℕ
-freshTo n file zero area = area
-freshTo n file (suc m) area = pasted (freshTo n file m area) (placeOf n (suc m)) (freshTensor n file m (freshTo n file m area))
+-- the picture, and the tensors that the first m layers make of it
+unfoldable pub freshTo : Network → List ℕ → List ℕ → List ℕ → ℕ → List (List ℕ)
+freshTo n file sums picture zero = picture ∷ []
+freshTo n file sums picture (suc m) = freshTo n file sums picture m ++ (freshLayer n file sums m (freshTo n file sums picture m) ∷ [])
 
--- the last tensor of a fresh run of the network n
-abbrev pub lastFresh : Network → List ℕ → List ℕ → List ℕ
-lastFresh n file area = tensorAt (freshTo n file (n .count) area) (placeOf n (n .count)) (tensorOf n (n .count))
+-- tensor t of a fresh run
+abbrev pub freshTensor : Network → List ℕ → List ℕ → List ℕ → ℕ → List ℕ
+freshTensor n file sums picture t = getD (freshTo n file sums picture t) t []
 
--- the reading of a fresh run over a network file and the picture in an area
+-- the reading of a fresh run over a network file and a picture: the last tensor, with the true sums
 abbrev pub freshReading : List ℕ → List ℕ → List ℕ
-freshReading file area = lastFresh (decodeOf file .network) file area
+freshReading file picture =
+    freshTensor (decodeOf file .network) file (networkSums (decodeOf file .network) file) picture (decodeOf file .network .count)

@@ -1,16 +1,20 @@
--- What a history of calls leads to: an accepted load, and then any of the other four calls, accepted or refused, each passed the latest state
--- and the same buffers, changed by nothing else.
+-- What a history of calls leads to: a system that keeps what a load leaves, and then any of the other four calls, accepted or refused, each
+-- passed the latest state and the same buffers, changed by nothing else.
 -- Assumes nothing.
-use Prim.Native.Nat.{ℕ}
+use Prim.Native.Nat.{ℕ, suc, _≤_, _<_}
 use mathlib.Core.Path.{_≡_}
 use mathlib.Core.List.{List}
 use lib.ListN.{length}
+use Rattle.network.specs.Network.{tensorOf}
 use Rattle.network.specs.Decode.{decodeOf}
 use Rattle.network.specs.declared.net.Network.{Network}
+use Rattle.windows.specs.Lists.{part}
+use Rattle.bands.specs.Within.{In}
 use Rattle.bands.specs.State.{loaded}
 use Rattle.bands.specs.declared.state.State.{State}
 use Rattle.checks.specs.Tensors.{tensorsOf}
-use Rattle.clew.specs.Calls.{loadOf, changeOf, replaceOf, updateOf, readOf}
+use Rattle.runs.specs.Run.{networkSums, tensorIn, rowIn, rowFrom, grownBandOf}
+use Rattle.clew.specs.Calls.{changeOf, replaceOf, updateOf, readOf}
 use Rattle.clew.specs.declared.outcome.Outcome.{Outcome}
 
 -- the buffers and the latest state
@@ -23,6 +27,10 @@ pub record System : Type 0 where
 -- the present network
 abbrev pub networkOf : System → Network
 networkOf s = decodeOf (s .file) .network
+
+-- and the present picture
+abbrev pub pictureOf : System → List ℕ
+pictureOf s = tensorIn (networkOf s) (s .area) 0
 
 -- one of the four calls, with its own parameters
 pub data Call : Type 0 where
@@ -56,9 +64,21 @@ after (replace k r) s = withFile s (replaceOf (s .file) (s .sums) (s .area) (s .
 after update s = withArea s (updateOf (s .file) (s .sums) (s .area) (s .state))
 after (read out) s = withState s (readFrom s out)
 
--- what an accepted load and any calls after it lead to
+-- what a history may begin from: the file is taken, the store and the area hold what it needs, there are 17 bands, the sums are the true ones,
+-- and each row outside the grown bands is what its layer makes of the rows and sums stored
+pub record Keeps (s : System) : Type 0 where
+  pub taken : decodeOf (s .file) .refusal ≡ 0
+  pub store-in : networkOf s .store ≤ length (s .sums)
+  pub area-in : networkOf s .area ≤ length (s .area)
+  pub bands : length (s .state .bands) ≡ 17
+  pub sums : part (s .sums) 0 (networkOf s .store) ≡ networkSums (networkOf s) (s .file)
+  pub rows : (m i : ℕ) → m < networkOf s .count → i < tensorOf (networkOf s) (suc m) .rows
+      → (In i (grownBandOf (networkOf s) (s .state) (suc m)) → ⊥)
+      → rowIn (networkOf s) (s .area) (suc m) i ≡ rowFrom (networkOf s) (s .file) (s .sums) m (s .area) i
+
+-- what such a system, an accepted load's for one, and any calls after it lead to
 pub data Reached : System → Type 0 where
-  load : (file sums area : List ℕ) → loadOf file sums area .0 .number ≡ 0 → Reached (afterLoad file area (loadOf file sums area))
+  begin : {s : System} → Keeps s → Reached s
   then : (c : Call) {s : System} → Reached s → Reached (after c s)
   -- the caller may write the picture straight into the area before the first update: every row is still stale, as load left it
   written : (area : List ℕ) {s : System} → Reached s → s .state ≡ loaded (tensorsOf (networkOf s)) → length area ≡ length (s .area)

@@ -20,9 +20,9 @@ use Rattle.layers.proofs.Lengths.{row-length}
 use Rattle.bands.specs.declared.band.Band.{Band}
 use Rattle.bands.specs.declared.state.State.{State}
 use Rattle.checks.specs.Tensors.{linkOf}
-use Rattle.runs.specs.Run.{rowFrom, redone, grownBandOf, updatedTo, Fair}
+use Rattle.runs.specs.Run.{tensorIn, rowFrom, redone, grownBandOf, updatedTo, Fair}
 use Rattle.runs.proofs.Fairs.{Fits, grown-fair}
-use Rattle.runs.proofs.Ready.{layer-shaped, input-before, other-before}
+use Rattle.runs.proofs.Ready.{other-shape, layer-shaped, input-before, other-before}
 
 -- what is pasted into the front of a list, said of the whole list
 front-pasted :
@@ -98,14 +98,15 @@ module _ (file : List ℕ) (n : Network) (sums : List ℕ) (t : Taken file n) wh
     unfolding redone
     front-redone =
         let y = t .layers m h in
-        let tensor : (u : ℕ) → placeOf n u + bytesOf (layerOf n m .input) ≤ n .area →
-        tensorAt (take (n .area) area) (placeOf n u) (layerOf n m .input) ≡ tensorAt area (placeOf n u) (tensorOf n m) =
-        λ u g.
+        let tensor : (u : ℕ) → placeOf n u + bytesOf (layerOf n m .input) ≤ n .area → layerOf n m .input ≡ tensorOf n u →
+        tensorAt (take (n .area) area) (placeOf n u) (layerOf n m .input) ≡ tensorIn n area u =
+        λ u g e.
         part-part area 0 (n .area) (placeOf n u) (bytesOf (layerOf n m .input)) g ∙
         ap (λ (p : ℕ). tensorAt area p (layerOf n m .input)) (zero-add (placeOf n u)) ∙
-        ap (tensorAt area (placeOf n u)) (y .input) in
-        let first = tensor m (omega (arith, input-before file n t m h, y .place-end)) in
-        let second = tensor (linkOf n m .other) (omega (arith, other-before file n t m h, y .place-end)) in
+        ap (tensorAt area (placeOf n u)) e in
+        let o = other-shape file n m (layerOf n m) (layerOf n m .kind) (y .kind) (y .input) in
+        let first = tensor m (omega (arith, input-before file n t m h, y .place-end)) (y .input) in
+        let second = tensor (linkOf n m .other) (omega (arith, other-before file n t m h, y .place-end)) (sym (o .1)) in
         rw (first, second)
         (front-pasted area (n .area) at rows (omega (arith, rows-end, tensors-in file n t (suc m) h)) room)
 

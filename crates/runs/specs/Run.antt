@@ -5,11 +5,10 @@ use mathlib.Core.Path.{_≡_}
 use mathlib.Core.Bool.{cond}
 use mathlib.Core.List.{List}
 use lib.ListN.{length}
-use Rattle.records.specs.declared.layer.Layer.{Layer}
 use Rattle.network.specs.Network.{layerOf, tensorOf, placeOf, zeroOf}
 use Rattle.network.specs.Taken.{Taken}
 use Rattle.network.specs.declared.net.Network.{Network}
-use Rattle.windows.specs.Lists.{pasted, joined}
+use Rattle.windows.specs.Lists.{pasted, joined, part}
 use Rattle.fields.specs.Shape.{rowBytes}
 use Rattle.layers.specs.Row.{rowOf, tensorAt}
 use Rattle.layers.specs.Sums.{layerSums}
@@ -25,13 +24,22 @@ use Rattle.checks.specs.Tests.{sumsFault}
 abbrev pub networkSums : Network → List ℕ → List ℕ
 networkSums n file = joined (n .count) (λ m. layerSums (layerOf n m) file)
 
--- row i of layer m, from the rows stored in the area and the sums stored
+-- tensor t as it stands in an area
+abbrev pub tensorIn : Network → List ℕ → ℕ → List ℕ
+tensorIn n area t = tensorAt area (placeOf n t) (tensorOf n t)
+
+-- row i of it
+abbrev pub rowIn : Network → List ℕ → ℕ → ℕ → List ℕ
+rowIn n area t i = part area (placeOf n t + i * rowBytes (tensorOf n t)) (rowBytes (tensorOf n t))
+
+-- row i of layer m, from tensors by number and the sums given
+abbrev pub rowOver : Network → List ℕ → List ℕ → ℕ → (ℕ → List ℕ) → ℕ → List ℕ
+rowOver n file sums m T i =
+    rowOf (layerOf n m) (zeroOf n m) (zeroOf n (linkOf n m .other)) file sums (T m) (T (linkOf n m .other)) i
+
+-- and from the rows stored in the area and the sums stored
 abbrev pub rowFrom : Network → List ℕ → List ℕ → ℕ → List ℕ → ℕ → List ℕ
-rowFrom n file sums m area i =
-    rowOf (layerOf n m) (zeroOf n m) (zeroOf n (linkOf n m .other)) file sums
-    (tensorAt area (placeOf n m) (tensorOf n m))
-    (tensorAt area (placeOf n (linkOf n m .other)) (tensorOf n m))
-    i
+rowFrom n file sums m area = rowOver n file sums m (tensorIn n area)
 
 -- layer m's rows in a band recomputed in their places
 unfoldable pub redone : Network → List ℕ → List ℕ → ℕ → Band → List ℕ → List ℕ

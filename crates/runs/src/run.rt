@@ -19,10 +19,10 @@ use network::net::place;
 use network::net::zero_point;
 use windows::window::times;
 
-// The bands grown so far, and the bytes recomputed.
-pub struct Ran {
-    pub state: State,
-    pub count: u32,
+// What one layer's step answers: the bands grown so far, and the bytes recomputed.
+struct Ran {
+    state: State,
+    count: u32,
 }
 
 // One layer's step: its band grows, and the rows in it are recomputed.
@@ -71,12 +71,12 @@ fn run_layer(
     }
 }
 
-// All layers in order, from the bands of the state s.
-pub fn run(file: &[u8], n: Network, sums: &[u32], area: &mut [u8], s: State) -> Ran
+// All layers in order, from the bands of the state s. The answer is the bytes recomputed.
+pub fn run(file: &[u8], n: Network, sums: &[u32], area: &mut [u8], s: State) -> u32
     requires { ⌜ CanRun (now file) n (now sums) (length (now area)) ⌝ }
     requires { ⌜ Fair n s ⌝ }
-    ensures { λ r. ⌜ r .count ≡ countTo n s (n .count) ⌝ }
-    ensures { λ r. ⌜ now (area .exit) ≡ updatedTo n (now (file .entry)) (now (sums .entry)) s (n .count) (now (area .entry)) ⌝ }
+    ensures { λ r. ⌜ r ≡ countTo n s (n .count) ⌝ }
+    ensures { λ _. ⌜ now (area .exit) ≡ updatedTo n (now (file .entry)) (now (sums .entry)) s (n .count) (now (area .entry)) ⌝ }
 {
     let mut patch = [0u8; 12544];
     let mut state = s;
@@ -89,5 +89,5 @@ pub fn run(file: &[u8], n: Network, sums: &[u32], area: &mut [u8], s: State) -> 
         count += step.count;
         m += 1;
     }
-    Ran { state, count }
+    count
 }
