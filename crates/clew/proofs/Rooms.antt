@@ -7,14 +7,13 @@ use native.Mathlib.Nat.{mul-le-mul-right}
 use native.Mathlib.Omega.{arith}
 use lib.ListN.{length}
 use Rattle.fields.specs.Shape.{bytesOf, rowBytes, GoodShape}
-use Rattle.fields.specs.Stored.{storedLen}
-use Rattle.records.specs.Layer.{sumsOf, termsOf, fixedOf, weightsAt, recordLen}
+use Rattle.records.specs.Layer.{sumsOf, termsOf, weightsAt, recordLen}
 use Rattle.records.specs.declared.layer.Layer.{Layer}
 use Rattle.fields.proofs.Shapes.{mul-most}
 use Rattle.network.specs.Network.{layerOf, placeOf}
 use Rattle.network.specs.declared.net.Network.{Network}
 use Rattle.network.specs.Replace.{replaceFault}
-use Rattle.network.proofs.Bounds.{sums-few, terms-few}
+use Rattle.network.proofs.Bounds.{terms-few}
 use Rattle.network.proofs.Kindred.{replace-fit}
 use Rattle.network.proofs.Places.{tensors-in}
 use Rattle.checks.specs.Tests.{rowsFault, layerFault, sliceFault}
@@ -74,17 +73,12 @@ pub layer-there : (n : Network) (k : ℕ) {fault : ℕ} → fault ≡ layerFault
 layer-there n k e h = let p = layer-passed n k (sym e ∙ h) in (p .0, omega arith)
 
 module _ {file sums : List ℕ} {n : Network} {room m : ℕ} {y : Layer} (c : CanRun file n sums room) (h : m < n .count) (e : y ≡ layerOf n m) where
-  pub layer-fits : GoodShape (y .input) × ((y .start ≤ 65536) × (sumsOf (y .kind) ≤ 256) × (termsOf (y .kind) (y .input) ≤ 16384))
-  layer-fits =
-      let t = c .taken in
-      rw e (input-good file n t m h, (omega (arith, t .layers m h .record-in, t .file-few), sums-few file n t m h, terms-few file n t m h))
-
-  pub record-there : y .start + recordLen y ≤ length file
-  record-there = rw e (c .taken .layers m h .record-in)
+  pub record-there : GoodShape (y .input) × (y .start + recordLen y ≤ length file)
+  record-there = rw e (input-good file n (c .taken) m h, c .taken .layers m h .record-in)
 
   -- a record for it, over its own
   pub record-fits : (r : List ℕ) {fault : ℕ} → fault ≡ replaceFault file y r → fault ≡ 0 → y .start + length r ≤ length file
-  record-fits r f z = omega (arith, replace-fit file y r (sym f ∙ z) .0, record-there)
+  record-fits r f z = omega (arith, replace-fit file y r (sym f ∙ z) .0, record-there .1)
 
   -- its weights and its sums, in a file of that length
   pub sums-fit :
@@ -103,13 +97,3 @@ module _ {file sums : List ℕ} {n : Network} {room m : ℕ} {y : Layer} (c : Ca
 
   pub output-few : y .output .rows ≤ 16384
   output-few = rw e (c .taken .shapes (suc m) h .rows-few)
-
--- where a layer's record ends, of the length of its fixed part and of what follows
-pub end-is :
-    (y : Layer) {fixed sums terms stored : ℕ} →
-    fixed ≡ fixedOf (y .kind) →
-    sums ≡ sumsOf (y .kind) →
-    terms ≡ termsOf (y .kind) (y .input) →
-    stored ≡ storedLen sums terms →
-    y .start + (fixed + stored) ≡ y .start + recordLen y
-end-is y a b c d = rw (d, a, b, c)

@@ -1,8 +1,5 @@
 // Replace layer: writes a record over the one in place, and its sums.
 ghost use mathlib.Core.Path.{_≡_};
-ghost use Prim.Native.Nat.{_+_, _≤_};
-ghost use Rattle.fields.specs.Shape.{GoodShape};
-ghost use Rattle.records.specs.Layer.{sumsOf, termsOf, recordLen};
 ghost use Rattle.clew.specs.Calls.{replaceOf};
 use crate::outcome::Outcome;
 use crate::outcome::plain;
@@ -10,30 +7,10 @@ use bands::state::State;
 use bands::state::after_replace;
 use checks::tests::layer_fault;
 use checks::tests::test_call;
-use fields::stored::stored_len;
 use layers::sums::put_sums;
 use network::net::layer;
 use network::replace::replace_fault;
-use records::layer::Kind;
-use records::layer::Layer;
-use records::layer::sums_of;
-use records::layer::terms_of;
 use windows::write::copy_in;
-
-// Where a layer's record ends in the file.
-fn record_end(y: Layer) -> usize
-    requires { ⌜ GoodShape (y .input) ⌝ }
-    requires { ⌜ (y .start ≤ 65536) × (sumsOf (y .kind) ≤ 256) × (termsOf (y .kind) (y .input) ≤ 16384) ⌝ }
-    ensures { λ r. ⌜ r ≡ y .start + recordLen y ⌝ }
-{
-    let kind = y.kind;
-    let stored = stored_len(sums_of(kind), terms_of(y));
-    match kind {
-        Kind::Convolution(_) => y.start + (16 + stored),
-        Kind::Fully(_) => y.start + (14 + stored),
-        Kind::Addition(_) => y.start + (22 + stored),
-    }
-}
 
 // Layer `number`, from 1, gets the record.
 pub fn replace_layer(
@@ -57,7 +34,7 @@ pub fn replace_layer(
     }
     let y = layer(network, number - 1);
     let start = y.start;
-    let nine = replace_fault(file, y, record_end(y), record);
+    let nine = replace_fault(file, y, record);
     if nine != 0 {
         return plain(nine, state);
     }

@@ -76,7 +76,7 @@ module _ (n : Network) (p : Present n) (area : List ℕ) where
       let y = p .taken .layers m (there p m h) in
       let j = linkOf n m .other in
       let el = p .alike .links m h in
-      let o = other-shape (p .file) net m (layerOf net m) (layerOf net m .kind) (y .kind) (y .input) in
+      let o = other-shape (p .file) net m (layerOf net m) (y .kind) in
       let before : j ≤ m = rw el at (o .0) in
       let same : tensorOf n j ≡ tensorOf n m = sym (p .alike .tensors j) ∙ rw el at (o .1) ∙ input-is p m h in
       ap₂ (λ (t u : List ℕ). rowOf (layerOf net m) (zeroOf net m) (zeroOf net j) (p .file) (p .sums) t u i)

@@ -7,7 +7,7 @@ use native.Mathlib.Nat.{mul-le-mul-left, mul-le-mul-right, div-add-mod'}
 use native.Mathlib.Omega.{arith}
 use lib.ListN.{length, take}
 use Rattle.fields.specs.Shape.{bytesOf, GoodShape, rowBytes}
-use Rattle.records.specs.Conv.{convOutput}
+use Rattle.records.specs.Frame.{frameOutput}
 use Rattle.fields.specs.declared.shape.Shape.{Shape}
 use Rattle.records.specs.declared.conv.Conv.{Conv}
 use Rattle.records.specs.declared.layer.Layer.{Layer}
@@ -64,43 +64,43 @@ plain-side : (n p k s : ℕ) → 1 ≤ n → p < k → k ≡ 1 → s ≡ 1 → (
 plain-side n p k s h g ek es = rw es (omega arith)
 
 -- the window's tensor is the input
-pub size-is : (y : Layer) (c : Conv) (z : ℕ) {w : Window} → w ≡ windowFor y c z → sizeOf w ≡ bytesOf (y .input)
+pub size-is : (y : Layer) (c : Conv) (z : ℕ) {w : Window} → w ≡ windowFor (y .input) (c .frame) z → sizeOf w ≡ bytesOf (y .input)
 unfolding bytesOf
 size-is y c z e = ap sizeOf e
 
 module _ (y : Layer) (c : Conv) {file sums : List ℕ} (r : ConvReady y c file sums) where
   -- the sides of its output
-  rows-are : y .output .rows ≡ (y .input .rows + 2 * c .padding - c .height) / c .stride + 1
-  unfolding convOutput
+  rows-are : y .output .rows ≡ (y .input .rows + 2 * c .frame .padding - c .frame .height) / c .frame .stride + 1
+  unfolding frameOutput
   rows-are = ap (λ (s : Shape). s .rows) (r .output)
 
-  columns-are : y .output .columns ≡ (y .input .columns + 2 * c .padding - c .width) / c .stride + 1
-  unfolding convOutput
+  columns-are : y .output .columns ≡ (y .input .columns + 2 * c .frame .padding - c .frame .width) / c .frame .stride + 1
+  unfolding frameOutput
   columns-are = ap (λ (s : Shape). s .columns) (r .output)
 
   -- a window of one cell has a term for each channel
-  pub plain-ready : (z : ℕ) {o : Outputs} → c .height ≡ 1 → c .width ≡ 1 → o ≡ convOutputs y c z → OutputsReady o (y .input .channels) file sums
+  pub plain-ready : (z : ℕ) {o : Outputs} → c .frame .height ≡ 1 → c .frame .width ≡ 1 → o ≡ convOutputs y c z → OutputsReady o (y .input .channels) file sums
   plain-ready z eh ew eo =
-      let n : c .height * c .width * y .input .channels ≡ y .input .channels = rw (eh, ew) (omega arith) in
+      let n : c .frame .height * c .frame .width * y .input .channels ≡ y .input .channels = rw (eh, ew) (omega arith) in
       rw (eo, ← n) (ready-any (convOutputs y c 0) z _ (r .outputs))
 
   module _ (g : GoodShape (y .input)) where
     -- where the windows of row i and of column j begin
-    pub row-at : (i : ℕ) → i < y .output .rows → i * c .stride ≤ 131072
-    row-at i h = omega (arith, stride-in i _ _ (c .stride) rows-are h)
+    pub row-at : (i : ℕ) → i < y .output .rows → i * c .frame .stride ≤ 131072
+    row-at i h = omega (arith, stride-in i _ _ (c .frame .stride) rows-are h)
 
-    pub column-at : (j : ℕ) → j < y .output .columns → j * c .stride ≤ y .input .columns + c .padding
-    column-at j h = omega (arith, stride-in j _ _ (c .stride) columns-are h)
+    pub column-at : (j : ℕ) → j < y .output .columns → j * c .frame .stride ≤ y .input .columns + c .frame .padding
+    column-at j h = omega (arith, stride-in j _ _ (c .frame .stride) columns-are h)
 
     -- a kernel of one cell with stride 1 keeps both sides
-    pub plain-rows : c .height ≡ 1 → c .stride ≡ 1 → y .output .rows ≡ y .input .rows
-    plain-rows eh es = rows-are ∙ plain-side (y .input .rows) (c .padding) (c .height) (c .stride) (g .rows-some) (r .ok .padding-rows) eh es
+    pub plain-rows : c .frame .height ≡ 1 → c .frame .stride ≡ 1 → y .output .rows ≡ y .input .rows
+    plain-rows eh es = rows-are ∙ plain-side (y .input .rows) (c .frame .padding) (c .frame .height) (c .frame .stride) (g .rows-some) (r .ok .frame .padding-rows) eh es
 
-    pub plain-columns : c .width ≡ 1 → c .stride ≡ 1 → y .output .columns ≡ y .input .columns
-    plain-columns ew es = columns-are ∙ plain-side (y .input .columns) (c .padding) (c .width) (c .stride) (g .columns-some) (r .ok .padding-columns) ew es
+    pub plain-columns : c .frame .width ≡ 1 → c .frame .stride ≡ 1 → y .output .columns ≡ y .input .columns
+    plain-columns ew es = columns-are ∙ plain-side (y .input .columns) (c .frame .padding) (c .frame .width) (c .frame .stride) (g .columns-some) (r .ok .frame .padding-columns) ew es
 
     -- the window's numbers are in their bounds
-    window-sound : (z : ℕ) → Sound (windowFor y c z)
+    window-sound : (z : ℕ) → Sound (windowFor (y .input) (c .frame) z)
     unfolding bytesOf
     window-sound z = record {
       rows = g .rows-few;
@@ -108,21 +108,21 @@ module _ (y : Layer) (c : Conv) {file sums : List ℕ} (r : ConvReady y c file s
       channels-some = g .channels-some;
       channels = g .channels-few;
       size = g .bytes-few;
-      height = r .ok .height-few;
-      width = r .ok .width-few;
-      top = omega (arith, r .ok .padding-rows);
-      left = omega (arith, r .ok .padding-columns);
+      height = r .ok .frame .height-few;
+      width = r .ok .frame .width-few;
+      top = omega (arith, r .ok .frame .padding-rows);
+      left = omega (arith, r .ok .frame .padding-columns);
     }
 
     -- what the function `conv_place` requires at place j of row i
     pub place-ready :
         (z i j from : ℕ) {w : Window} {o : Outputs} {at p q size patch : ℕ} →
-        w ≡ windowFor y c z →
+        w ≡ windowFor (y .input) (c .frame) z →
         o ≡ convOutputs y c z →
         i < y .output .rows →
         j < y .output .columns →
-        p ≡ i * c .stride →
-        q ≡ j * c .stride →
+        p ≡ i * c .frame .stride →
+        q ≡ j * c .frame .stride →
         Apart from (bytesOf (y .input)) at (o .count) →
         from + bytesOf (y .input) ≤ size →
         at + o .count ≤ size →
@@ -134,8 +134,8 @@ module _ (y : Layer) (c : Conv) {file sums : List ℕ} (r : ConvReady y c file s
     unfolding bytesOf
     place-ready z i j from ew eo hi hj ep eq ha hf hr hp =
         let sound = window-sound z in
-        let taps = taps-few (windowFor y c z) sound in
-        let terms : termsOf (windowFor y c z) ≤ 12544 = mul-most (c .height * c .width) (y .input .channels) 49 256 taps (g .channels-few) in (
+        let taps = taps-few (windowFor (y .input) (c .frame) z) sound in
+        let terms : termsOf (windowFor (y .input) (c .frame) z) ≤ 12544 = mul-most (c .frame .height * c .frame .width) (y .input .channels) 49 256 taps (g .channels-few) in (
           rw ew sound,
           (
             rw (eo, ew) (ready-any (convOutputs y c 0) z _ (r .outputs)),
@@ -184,12 +184,12 @@ module _ (y : Layer) (c : Conv) (z : ℕ) (file sums area : List ℕ) (from i : 
   -- the row whose places are gathered
   pub conv-done :
       {w : Window} {o : Outputs} {p skip line : ℕ} {area′ : List ℕ} →
-      w ≡ windowFor y c z →
+      w ≡ windowFor (y .input) (c .frame) z →
       o ≡ convOutputs y c z →
-      p ≡ i * c .stride →
+      p ≡ i * c .frame .stride →
       line ≡ rowBytes (y .output) →
       skip ≡ i * line →
-      area′ ≡ pasted area (y .place + skip) (joined (y .output .columns) (λ k. outputsOf o file sums (windowOf w (part area from (sizeOf w)) p (k * c .stride)))) →
+      area′ ≡ pasted area (y .place + skip) (joined (y .output .columns) (λ k. outputsOf o file sums (windowOf w (part area from (sizeOf w)) p (k * c .frame .stride)))) →
       area′ ≡ pasted area (y .place + i * rowBytes (y .output)) (convRow y c z file sums (tensorAt area from (y .input)) i)
   unfolding convRow bytesOf
   conv-done ew eo ep el es e = e ∙ rw (es, el, ep, eo, ew)
@@ -200,7 +200,7 @@ module _ (y : Layer) (c : Conv) (z : ℕ) (file sums area : List ℕ) (from i : 
       ConvReady y c file sums →
       GoodShape (y .input) →
       i < y .output .rows →
-      (c .height ≡ 1) × (c .width ≡ 1) × (c .stride ≡ 1) →
+      (c .frame .height ≡ 1) × (c .frame .width ≡ 1) × (c .frame .stride ≡ 1) →
       o ≡ convOutputs y c z →
       line ≡ rowBytes (y .input) →
       skip ≡ i * line →
@@ -218,7 +218,7 @@ module _ (y : Layer) (c : Conv) (z : ℕ) (file sums area : List ℕ) (from i : 
           (k : ℕ) →
           k < y .input .columns →
           part area (from + skip + k * y .input .channels) (y .input .channels) ≡
-          windowOf (windowFor y c z) (tensorAt area from (y .input)) (i * c .stride) (k * c .stride)
+          windowOf (windowFor (y .input) (c .frame) z) (tensorAt area from (y .input)) (i * c .frame .stride) (k * c .frame .stride)
       place k h =
           let n = y .input .channels in
           let cell = (i * y .input .columns + k) * n in
@@ -226,8 +226,8 @@ module _ (y : Layer) (c : Conv) (z : ℕ) (file sums area : List ℕ) (from i : 
           let inside : cell + n ≤ bytesOf (y .input) =
           omega (arith, row-in (y .input) i input, mul-le-mul-right {m = k + 1} {n = y .input .columns} n (omega arith)) in
           let there : from + skip + k * n ≡ from + cell = omega (arith, ek ∙ ap (λ (l : ℕ). i * l) el) in
-          let row : i * c .stride ≡ i = rw es (omega arith) in
-          let column : k * c .stride ≡ k = rw es (omega arith) in
-          let none : c .padding ≡ 0 = omega (arith, r .ok .padding-rows) in
-          rw (there, row, column, window-plain (windowFor y c z) (tensorAt area from (y .input)) i k eh ew none none input h)
+          let row : i * c .frame .stride ≡ i = rw es (omega arith) in
+          let column : k * c .frame .stride ≡ k = rw es (omega arith) in
+          let none : c .frame .padding ≡ 0 = omega (arith, r .ok .frame .padding-rows) in
+          rw (there, row, column, window-plain (windowFor (y .input) (c .frame) z) (tensorAt area from (y .input)) i k eh ew none none input h)
           (sym (part-part area from (bytesOf (y .input)) cell n inside))

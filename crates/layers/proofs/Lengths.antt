@@ -6,9 +6,8 @@ use Prim.Native.Nat.{ℕ, _*_}
 use native.Mathlib.Nat.{mul-one, one-mul}
 use lib.ListN.{length}
 use Rattle.fields.specs.Shape.{rowBytes}
-use Rattle.records.specs.Layer.{sumsOf}
-use Rattle.records.specs.Conv.{convOutput}
-use Rattle.records.specs.Full.{fullOutput}
+use Rattle.records.specs.Layer.{sumsOf, outputShape}
+use Rattle.records.specs.Frame.{frameOutput}
 use Rattle.records.specs.declared.layer.Kind.{Kind}
 use Rattle.records.specs.declared.layer.Kind.the-variants.{Convolution, Fully, Addition}
 use Rattle.records.specs.declared.layer.Layer.{Layer}
@@ -36,11 +35,9 @@ pub sums-length : (y : Layer) (file : List ℕ) → length (layerSums y file) �
 unfolding layerSums
 sums-length y file = singles-length (sumsOf (y .kind)) (weightSum y file)
 
--- the shape of what a layer makes, by its kind
+-- a layer makes what its kind makes of its input
 abbrev pub ShapedBy : Kind → Layer → Type 0
-ShapedBy (Convolution c) y = y .output ≡ convOutput (y .input) c
-ShapedBy (Fully f) y = y .output ≡ fullOutput f
-ShapedBy (Addition a) y = y .output ≡ y .input
+ShapedBy k y = y .output ≡ outputShape k (y .input)
 
 -- a layer that is ready has it
 pub ready-shaped : (y : Layer) (file sums : List ℕ) → KindReady (y .kind) y file sums → ShapedBy (y .kind) y
@@ -55,7 +52,7 @@ length-by :
     (k : Kind) (y : Layer) (z z′ : ℕ) (file sums t t′ : List ℕ) (i : ℕ) →
     ShapedBy k y →
     length (rowBy k y z z′ file sums t t′ i) ≡ rowBytes (y .output)
-unfolding convRow addRow convOutput fullOutput
+unfolding convRow addRow frameOutput
 length-by (Convolution c) y z z′ file sums t t′ i e =
     joined-length (y .output .columns) (c .filters) _ (λ j. outputs-length _ file sums _) ∙
     ap (λ s. y .output .columns * s .channels) (sym e)

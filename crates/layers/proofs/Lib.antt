@@ -1,7 +1,6 @@
 -- Laws that belong to no one function, and the examples.
 pub mod Convs
 pub mod Direct
-pub mod Examples
 pub mod Laid
 pub mod Lengths
 pub mod Local

@@ -1,7 +1,7 @@
 -- What a row depends on: the layer's parameters, its inputs' zero-points, its record, its stored sums, and the rows of its
 -- inputs that it sees.
 -- Assumes nothing.
-use mathlib.Core.Path.{_≡_, refl, sym, ap, _∙_}
+use mathlib.Core.Path.{_≡_, refl, sym, ap, subst, _∙_}
 use mathlib.Core.List.{List, [], _∷_}
 use Prim.Native.Nat.{ℕ, _+_, _*_, _-_, _≤_, _<_}
 use native.Mathlib.Nat.{add-sub-of-le, mul-le-mul-right, zero-add}
@@ -12,8 +12,8 @@ use Rattle.numbers.specs.Total.{sum}
 use Rattle.fields.specs.Bytes.{i32At}
 use Rattle.fields.specs.Shape.{bytesOf, rowBytes}
 use Rattle.fields.specs.Stored.{storedLen}
-use Rattle.records.specs.Layer.{sumsOf, termsOf, fixedOf, biasesAt, weightsAt, recordLen}
-use Rattle.records.specs.Full.{fullOutput}
+use Rattle.records.specs.Mark.{fixedLen}
+use Rattle.records.specs.Layer.{sumsOf, termsOf, biasesAt, weightsAt, recordLen}
 use Rattle.fields.specs.declared.shape.Shape.{Shape}
 use Rattle.records.specs.declared.conv.Conv.{Conv}
 use Rattle.records.specs.declared.full.Full.{Full}
@@ -110,7 +110,7 @@ module _ (y : Layer) (file file′ : List ℕ) (e : SameRecord y file file′) w
       f < sumsOf (y .kind) →
       i32At file (biasesAt y + 4 * f) ≡ i32At file′ (biasesAt y + 4 * f)
   bias-local =
-      stored-bias file file′ (y .start) (fixedOf (y .kind)) (sumsOf (y .kind)) (termsOf (y .kind) (y .input)) e
+      stored-bias file file′ (y .start) (fixedLen (y .mark)) (sumsOf (y .kind)) (termsOf (y .kind) (y .input)) e
 
   -- the weights of an output do
   pub weights-local :
@@ -119,7 +119,22 @@ module _ (y : Layer) (file file′ : List ℕ) (e : SameRecord y file file′) w
       weightsOf file (weightsAt y) (termsOf (y .kind) (y .input)) f ≡
       weightsOf file′ (weightsAt y) (termsOf (y .kind) (y .input)) f
   weights-local =
-      stored-weights file file′ (y .start) (fixedOf (y .kind)) (sumsOf (y .kind)) (termsOf (y .kind) (y .input)) e
+      stored-weights file file′ (y .start) (fixedLen (y .mark)) (sumsOf (y .kind)) (termsOf (y .kind) (y .input)) e
+
+  -- said of a layer of kind k
+  bias-by : (k : Kind) → y .kind ≡ k → (f : ℕ) → f < sumsOf k → i32At file (biasesAt y + 4 * f) ≡ i32At file′ (biasesAt y + 4 * f)
+  bias-by k h = subst (λ (x : Kind). (f : ℕ) → f < sumsOf x → i32At file (biasesAt y + 4 * f) ≡ i32At file′ (biasesAt y + 4 * f)) h bias-local
+
+  weights-by :
+      (k : Kind) →
+      y .kind ≡ k →
+      (f : ℕ) →
+      f < sumsOf k →
+      weightsOf file (weightsAt y) (termsOf k (y .input)) f ≡ weightsOf file′ (weightsAt y) (termsOf k (y .input)) f
+  weights-by k h =
+      subst (λ (x : Kind).
+      (f : ℕ) → f < sumsOf x → weightsOf file (weightsAt y) (termsOf x (y .input)) f ≡ weightsOf file′ (weightsAt y) (termsOf x (y .input)) f) h
+      weights-local
 
   -- so the true sums are the same where the record is
   pub sums-local : layerSums y file ≡ layerSums y file′
@@ -152,7 +167,7 @@ InWindow before kernel stride i r = (i * stride ≤ r + before) × (r + before <
 
 -- row i of a layer sees row r of an input: a full layer's one row sees all, an add's row i sees row i
 abbrev pub seesBy : Kind → Layer → ℕ → ℕ → Type 0
-seesBy (Convolution c) y i r = InWindow (c .padding) (c .height) (c .stride) i r
+seesBy (Convolution c) y i r = InWindow (c .frame .padding) (c .frame .height) (c .frame .stride) i r
 seesBy (Fully f) y i r = InWindow 0 (y .input .rows) 1 i r
 seesBy (Addition a) y i r = InWindow 0 1 1 i r
 
@@ -178,37 +193,41 @@ outputs-local o file file′ sums sums′ q n e b w s =
 conv-local :
     (y : Layer) (c : Conv) (z : ℕ) (file file′ sums sums′ t u : List ℕ) (i : ℕ) →
     length t ≡ bytesOf (y .input) →
-    SamePart file file′ (y .start) (16 + storedLen (c .filters) (c .height * c .width * y .input .channels)) →
-    SamePart sums sums′ (y .sums) (c .filters) →
+    y .kind ≡ Convolution c →
+    SameRecord y file file′ →
+    SameSums y sums sums′ →
     SameRows (Convolution c) y i t u →
     convRow y c z file sums t i ≡ convRow y c z file′ sums′ u i
 unfolding convRow bytesOf
-conv-local y c z file file′ sums sums′ t u i l e s h =
-    let n : ℕ = c .height * c .width * y .input .channels in
+conv-local y c z file file′ sums sums′ t u i l k e s h =
+    let n : ℕ = termsOf (Convolution c) (y .input) in
     let o : Outputs = convOutputs y c z in
-    let w : Window = windowFor y c z in
-    let p : ℕ = i * c .stride in
-    let bias = stored-bias file file′ (y .start) 16 (c .filters) n e in
-    let weights = stored-weights file file′ (y .start) 16 (c .filters) n e in
+    let w : Window = windowFor (y .input) (c .frame) z in
+    let p : ℕ = i * c .frame .stride in
+    let bias = bias-by y file file′ e _ k in
+    let weights = weights-by y file file′ e _ k in
+    let sums-same = subst (λ (x : Kind). SamePart sums sums′ (y .sums) (sumsOf x)) k s in
     joined-same (y .output .columns) (λ j g.
-    let q : ℕ = j * c .stride in
-    outputs-local o file file′ sums sums′ (windowOf w t p q) n (window-length w t p q l) bias weights s ∙
+    let q : ℕ = j * c .frame .stride in
+    outputs-local o file file′ sums sums′ (windowOf w t p q) n (window-length w t p q l) bias weights sums-same ∙
     ap (outputsOf o file′ sums′) (window-local w t u p q (λ r a b k. h r (a, b) k)))
 
 full-local :
     (y : Layer) (f : Full) (z : ℕ) (file file′ sums sums′ t u : List ℕ) →
     length t ≡ bytesOf (y .input) →
     length u ≡ bytesOf (y .input) →
-    SamePart file file′ (y .start) (14 + storedLen (f .outputs) (bytesOf (y .input))) →
-    SamePart sums sums′ (y .sums) (f .outputs) →
+    y .kind ≡ Fully f →
+    SameRecord y file file′ →
+    SameSums y sums sums′ →
     ((r : ℕ) → r < y .input .rows → rowPart t r (y .input) ≡ rowPart u r (y .input)) →
     fullRow y f z file sums t ≡ fullRow y f z file′ sums′ u
-full-local y f z file file′ sums sums′ t u l l′ e s h =
+full-local y f z file file′ sums sums′ t u l l′ k e s h =
     let n : ℕ = bytesOf (y .input) in
     let o : Outputs = fullOutputs y f z in
-    let bias = stored-bias file file′ (y .start) 14 (f .outputs) n e in
-    let weights = stored-weights file file′ (y .start) 14 (f .outputs) n e in
-    outputs-local o file file′ sums sums′ t n l bias weights s ∙
+    let bias = bias-by y file file′ e _ k in
+    let weights = weights-by y file file′ e _ k in
+    let sums-same = subst (λ (x : Kind). SamePart sums sums′ (y .sums) (sumsOf x)) k s in
+    outputs-local o file file′ sums sums′ t n l bias weights sums-same ∙
     ap (outputsOf o file′ sums′) (tensor-by-rows t u (y .input) l l′ h)
 
 add-local :
@@ -226,22 +245,22 @@ add-local a z z′ w t u t′ u′ i e e′ =
 
 local-by :
     (k : Kind) (y : Layer) (z z′ : ℕ) (file file′ sums sums′ t u t′ u′ : List ℕ) (i : ℕ) →
+    y .kind ≡ k →
     ShapedBy k y →
     i < y .output .rows →
     length t ≡ bytesOf (y .input) →
     length u ≡ bytesOf (y .input) →
-    SamePart file file′ (y .start) (fixedOf k + storedLen (sumsOf k) (termsOf k (y .input))) →
-    SamePart sums sums′ (y .sums) (sumsOf k) →
+    SameRecord y file file′ →
+    SameSums y sums sums′ →
     SameRows k y i t u →
     SameRows k y i t′ u′ →
     rowBy k y z z′ file sums t t′ i ≡ rowBy k y z z′ file′ sums′ u u′ i
-unfolding fullOutput
-local-by (Convolution c) y z z′ file file′ sums sums′ t u t′ u′ i p hi l l′ e s h h′ =
-    conv-local y c z file file′ sums sums′ t u i l e s h
-local-by (Fully f) y z z′ file file′ sums sums′ t u t′ u′ i p hi l l′ e s h h′ =
+local-by (Convolution c) y z z′ file file′ sums sums′ t u t′ u′ i x p hi l l′ e s h h′ =
+    conv-local y c z file file′ sums sums′ t u i l x e s h
+local-by (Fully f) y z z′ file file′ sums sums′ t u t′ u′ i x p hi l l′ e s h h′ =
     let first : i < 1 = rw p at hi in
-    full-local y f z file file′ sums sums′ t u l l′ e s (λ r g. h r (omega arith, omega arith) g)
-local-by (Addition a) y z z′ file file′ sums sums′ t u t′ u′ i p hi l l′ e s h h′ =
+    full-local y f z file file′ sums sums′ t u l l′ x e s (λ r g. h r (omega arith, omega arith) g)
+local-by (Addition a) y z z′ file file′ sums sums′ t u t′ u′ i x p hi l l′ e s h h′ =
     let inside : i < y .input .rows = rw p at hi in
     let seen : InWindow 0 1 1 i i = (omega arith, omega arith) in
     rw p (add-local a z z′ (rowBytes (y .input)) t u t′ u′ i (h i seen inside) (h′ i seen inside))
@@ -258,4 +277,4 @@ pub row-local :
     SameRows (y .kind) y i t u →
     SameRows (y .kind) y i t′ u′ →
     rowOf y z z′ file sums t t′ i ≡ rowOf y z z′ file′ sums′ u u′ i
-row-local y = local-by (y .kind) y
+row-local y z z′ file file′ sums sums′ t u t′ u′ i = local-by (y .kind) y z z′ file file′ sums sums′ t u t′ u′ i refl

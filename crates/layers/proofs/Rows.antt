@@ -7,7 +7,7 @@ use native.Mathlib.Nat.{mul-le-mul-right}
 use native.Mathlib.Omega.{arith}
 use lib.ListN.{length, getD}
 use Rattle.fields.specs.Shape.{bytesOf, rowBytes}
-use Rattle.records.specs.Conv.{convOutput}
+use Rattle.records.specs.Frame.{frameOutput}
 use Rattle.records.specs.Full.{fullOutput}
 use Rattle.fields.specs.declared.shape.Shape.{Shape}
 use Rattle.records.specs.declared.conv.Conv.{Conv}
@@ -37,7 +37,7 @@ row-skip s i h ew es = omega (arith, es ∙ ap (λ (m : ℕ). i * m) ew, row-in 
 
 -- a convolution's output has a channel for each filter
 pub filters-are : (y : Layer) (c : Conv) {file sums : List ℕ} → ConvReady y c file sums → y .output .channels ≡ c .filters
-unfolding convOutput
+unfolding frameOutput
 filters-are y c r = ap (λ (s : Shape). s .channels) (r .output)
 
 module _ (y : Layer) (z z′ : ℕ) (file sums : List ℕ) (from other : ℕ) where
@@ -85,14 +85,13 @@ module _ (y : Layer) (kind : Kind) (e : y .kind ≡ kind) where
 
 -- a full layer has one row
 pub full-place : (y : Layer) (f : Full) (i : ℕ) → y .output ≡ fullOutput f → i < y .output .rows → y .place ≡ y .place + i * rowBytes (y .output)
-unfolding fullOutput
 full-place y f i e h =
     let none : i ≡ 0 = omega (arith, ap (λ (s : Shape). s .rows) e) in
     omega (arith, ap (λ (k : ℕ). k * rowBytes (y .output)) none)
 
 -- a full layer's output has a byte for each of its outputs
 pub full-bytes : (s : Shape) (f : Full) → s ≡ fullOutput f → bytesOf s ≡ f .outputs
-unfolding bytesOf fullOutput
+unfolding bytesOf
 full-bytes s f e = ap bytesOf e ∙ omega arith
 
 -- row i of an add of two tensors of `size` bytes that stand in one area, laid from its place

@@ -3,20 +3,13 @@
 use mathlib.Core.Path.{_≡_}
 use mathlib.Core.List.{List, [], _∷_}
 use Prim.Native.Nat.{ℕ, _+_, _*_}
-use native.Mathlib.Omega.{arith}
 use Rattle.numbers.specs.Total.{sum}
 use Rattle.records.specs.Layer.{sumsOf, termsOf, weightsAt}
-use Rattle.records.specs.declared.add.Add.{Add}
-use Rattle.records.specs.declared.layer.Kind.the-variants.{Addition}
 use Rattle.records.specs.declared.layer.Layer.{Layer}
 use Rattle.windows.specs.Lists.{joined, part}
 use Rattle.layers.specs.Sums.{layerSums}
 
 module _ (y : Layer) where
-  -- an add's record has no weights after its 22 bytes
-  pub add-weights : (a : Add) → y .kind ≡ Addition a → y .start + 22 ≡ weightsAt y
-  add-weights a e = rw e (omega arith)
-
   -- the sums of a layer, with its numbers as the code has them
   pub sums-are :
       (file : List ℕ) {n count at : ℕ} →

@@ -1,7 +1,10 @@
 -- A row of a convolution.
 -- Assumes nothing.
-use Prim.Native.Nat.{ℕ, _+_, _*_}
+use Prim.Native.Nat.{ℕ, _*_}
 use mathlib.Core.List.{List}
+use Rattle.fields.specs.declared.shape.Shape.{Shape}
+use Rattle.records.specs.Layer.{biasesAt, weightsAt}
+use Rattle.records.specs.declared.frame.Frame.{Frame}
 use Rattle.records.specs.declared.conv.Conv.{Conv}
 use Rattle.records.specs.declared.layer.Layer.{Layer}
 use Rattle.windows.specs.Lists.{joined}
@@ -10,24 +13,24 @@ use Rattle.windows.specs.declared.window.Window.{Window}
 use Rattle.layers.specs.Outputs.{outputsOf}
 use Rattle.layers.specs.declared.outputs.Outputs.{Outputs}
 
--- its window over an input of zero-point z: a cell outside the picture counts as byte z
-abbrev pub windowFor : Layer → Conv → ℕ → Window
-windowFor y c z = record {
-  rows = y .input .rows;
-  columns = y .input .columns;
-  channels = y .input .channels;
+-- the window of a frame over an input of zero-point z: a cell outside the picture counts as byte z
+abbrev pub windowFor : Shape → Frame → ℕ → Window
+windowFor i f z = record {
+  rows = i .rows;
+  columns = i .columns;
+  channels = i .channels;
   zero = z;
-  height = c .height;
-  width = c .width;
-  top = c .padding;
-  left = c .padding;
+  height = f .height;
+  width = f .width;
+  top = f .padding;
+  left = f .padding;
 }
 
 abbrev pub convOutputs : Layer → Conv → ℕ → Outputs
 convOutputs y c z = record {
   count = c .filters;
-  biases = y .start + 16;
-  weights = y .start + 16 + 4 * c .filters;
+  biases = biasesAt y;
+  weights = weightsAt y;
   sums = y .sums;
   z = z;
   v = c .v;
@@ -40,4 +43,5 @@ convOutputs y c z = record {
 -- row i of its output, of the input tensor t with the zero-point z
 unfoldable pub convRow : Layer → Conv → ℕ → List ℕ → List ℕ → List ℕ → ℕ → List ℕ
 convRow y c z file sums t i =
-    joined (y .output .columns) (λ j. outputsOf (convOutputs y c z) file sums (windowOf (windowFor y c z) t (i * c .stride) (j * c .stride)))
+    joined (y .output .columns) (λ j.
+    outputsOf (convOutputs y c z) file sums (windowOf (windowFor (y .input) (c .frame) z) t (i * c .frame .stride) (j * c .frame .stride)))

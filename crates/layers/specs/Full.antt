@@ -1,7 +1,8 @@
 -- The row of a full layer: its window is the whole input tensor.
 -- Assumes nothing.
-use Prim.Native.Nat.{ℕ, _+_, _*_}
+use Prim.Native.Nat.{ℕ}
 use mathlib.Core.List.{List}
+use Rattle.records.specs.Layer.{biasesAt, weightsAt}
 use Rattle.records.specs.declared.full.Full.{Full}
 use Rattle.records.specs.declared.layer.Layer.{Layer}
 use Rattle.layers.specs.Outputs.{outputsOf}
@@ -10,8 +11,8 @@ use Rattle.layers.specs.declared.outputs.Outputs.{Outputs}
 abbrev pub fullOutputs : Layer → Full → ℕ → Outputs
 fullOutputs y f z = record {
   count = f .outputs;
-  biases = y .start + 14;
-  weights = y .start + 14 + 4 * f .outputs;
+  biases = biasesAt y;
+  weights = weightsAt y;
   sums = y .sums;
   z = z;
   v = f .v;

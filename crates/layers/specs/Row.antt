@@ -4,9 +4,11 @@ use Prim.Native.Nat.{ℕ, _+_, _*_, _≤_}
 use mathlib.Core.Path.{_≡_}
 use mathlib.Core.List.{List}
 use Rattle.fields.specs.Shape.{bytesOf, GoodShape, rowBytes}
-use Rattle.records.specs.Conv.{convOutput, ConvOk}
+use Rattle.records.specs.Frame.{Fits}
+use Rattle.records.specs.Conv.{ConvOk}
 use Rattle.records.specs.Full.{fullOutput, FullOk}
 use Rattle.records.specs.Add.{AddOk}
+use Rattle.records.specs.Layer.{termsOf, outputShape}
 use Rattle.fields.specs.declared.shape.Shape.{Shape}
 use Rattle.records.specs.declared.conv.Conv.{Conv}
 use Rattle.records.specs.declared.full.Full.{Full}
@@ -36,10 +38,9 @@ rowOf y = rowBy (y .kind) y
 -- the layer's record and sums, as tests 1 to 3 and 6 leave them
 pub record ConvReady (y : Layer) (c : Conv) (file sums : List ℕ) : Type 0 where
   pub ok : ConvOk c
-  pub rows-fit : c .height ≤ y .input .rows + 2 * c .padding
-  pub columns-fit : c .width ≤ y .input .columns + 2 * c .padding
-  pub output : y .output ≡ convOutput (y .input) c
-  pub outputs : OutputsReady (convOutputs y c 0) (c .height * c .width * y .input .channels) file sums
+  pub fits : Fits (c .frame) (y .input)
+  pub output : y .output ≡ outputShape (Convolution c) (y .input)
+  pub outputs : OutputsReady (convOutputs y c 0) (termsOf (Convolution c) (y .input)) file sums
 
 pub record FullReady (y : Layer) (f : Full) (file sums : List ℕ) : Type 0 where
   pub ok : FullOk f

@@ -13,23 +13,26 @@ use crate::outputs::put_outputs;
 use crate::outputs::put_within;
 use records::conv::Conv;
 use records::layer::Layer;
+use records::layer::biases_at;
+use records::layer::weights_at;
 use windows::window::Window;
 use windows::window::gather;
 use windows::window::times;
 
 fn window_for(y: Layer, c: Conv, z: u8) -> Window
-    ensures { λ r. ⌜ r ≡ windowFor y c z ⌝ }
+    ensures { λ r. ⌜ r ≡ windowFor (y .input) (c .frame) z ⌝ }
 {
     let input = y.input;
+    let f = c.frame;
     Window {
         rows: input.rows,
         columns: input.columns,
         channels: input.channels,
         zero: z,
-        height: c.height as usize,
-        width: c.width as usize,
-        top: c.padding as usize,
-        left: c.padding as usize,
+        height: f.height as usize,
+        width: f.width as usize,
+        top: f.padding as usize,
+        left: f.padding as usize,
     }
 }
 
@@ -40,8 +43,8 @@ fn conv_outputs(y: Layer, c: Conv, z: u8) -> Outputs
     let scale = c.scale;
     Outputs {
         count: c.filters as usize,
-        biases: y.start + 16,
-        weights: y.start + 16 + 4 * c.filters as usize,
+        biases: biases_at(y),
+        weights: weights_at(y),
         sums: y.sums,
         z,
         v: c.v,
@@ -100,7 +103,7 @@ fn gathered_row(
     let output = y.output;
     let across = output.columns;
     let filters = o.count;
-    let stride = c.stride as usize;
+    let stride = c.frame.stride as usize;
     let p = times(i, stride);
     let mut at = y.place + times(i, times(across, filters));
     let mut q = 0;
@@ -126,7 +129,7 @@ fn plain_row(
 )
     requires { ⌜ ConvReady y c (now file) (now sums) ⌝ }
     requires { ⌜ Placed y (length (now area)) from ⌝ }
-    requires { ⌜ (i < y .output .rows) × ((c .height ≡ 1) × (c .width ≡ 1) × (c .stride ≡ 1)) ⌝ }
+    requires { ⌜ (i < y .output .rows) × ((c .frame .height ≡ 1) × (c .frame .width ≡ 1) × (c .frame .stride ≡ 1)) ⌝ }
     ensures { λ _. ⌜ now (area .exit) ≡ pasted (now (area .entry)) (y .place + i * rowBytes (y .output)) (convRow y c z (now (file .entry)) (now (sums .entry)) (tensorAt (now (area .entry)) from (y .input)) i) ⌝ }
 {
     let o = conv_outputs(y, c, z);
@@ -162,9 +165,9 @@ pub fn conv_row(
     requires { ⌜ (i < y .output .rows) × (12544 ≤ length (now patch)) ⌝ }
     ensures { λ _. ⌜ now (area .exit) ≡ pasted (now (area .entry)) (y .place + i * rowBytes (y .output)) (convRow y c z (now (file .entry)) (now (sums .entry)) (tensorAt (now (area .entry)) from (y .input)) i) ⌝ }
 {
-    if c.height == 1 {
-        if c.width == 1 {
-            if c.stride == 1 {
+    if c.frame.height == 1 {
+        if c.frame.width == 1 {
+            if c.frame.stride == 1 {
                 plain_row(y, c, z, file, sums, area, from, i);
                 return;
             }

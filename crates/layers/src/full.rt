@@ -10,6 +10,8 @@ use crate::outputs::put_within;
 use fields::shape::bytes_of;
 use records::full::Full;
 use records::layer::Layer;
+use records::layer::biases_at;
+use records::layer::weights_at;
 
 fn full_outputs(y: Layer, f: Full, z: u8) -> Outputs
     requires { ⌜ y .start ≤ 65536 ⌝ }
@@ -18,8 +20,8 @@ fn full_outputs(y: Layer, f: Full, z: u8) -> Outputs
     let scale = f.scale;
     Outputs {
         count: f.outputs as usize,
-        biases: y.start + 14,
-        weights: y.start + 14 + 4 * f.outputs as usize,
+        biases: biases_at(y),
+        weights: weights_at(y),
         sums: y.sums,
         z,
         v: f.v,

@@ -6,24 +6,11 @@ ghost use Rattle.fields.specs.Shape.{GoodShape};
 ghost use Rattle.records.specs.Layer.{sumsOf, termsOf, weightsAt};
 ghost use Rattle.windows.specs.Lists.{pasted};
 ghost use Rattle.layers.specs.Sums.{layerSums};
-use records::layer::Kind;
 use records::layer::Layer;
 use records::layer::sums_of;
 use records::layer::terms_of;
+use records::layer::weights_at;
 use windows::sums::byte_total;
-
-// Where a layer's weights begin in the file.
-fn weights_at(y: Layer) -> usize
-    requires { ⌜ y .start ≤ 65536 ⌝ }
-    ensures { λ r. ⌜ r ≡ weightsAt y ⌝ }
-{
-    let kind = y.kind;
-    match kind {
-        Kind::Convolution(c) => y.start + 16 + 4 * c.filters as usize,
-        Kind::Fully(f) => y.start + 14 + 4 * f.outputs as usize,
-        Kind::Addition(_) => y.start + 22,
-    }
-}
 
 // The true sums of a layer, to their places in the store.
 pub fn put_sums(y: Layer, file: &[u8], sums: &mut [u32])

@@ -2,21 +2,22 @@
 -- Assumes nothing.
 use Prim.Native.Nat.{ℕ, zero, suc, _+_, _-_, _*_, _≤_, _<_}
 use mathlib.Core.Path.{_≡_, refl, sym, _∙_, ap}
+use mathlib.Core.Logic.{inl, inr}
 use mathlib.Core.List.{List, _++_, append-assoc}
-use native.Mathlib.Nat.{mul-le-mul-right, zero-add}
+use native.Mathlib.Nat.{zero-add}
 use native.Mathlib.Omega.{arith}
 use lib.ListN.{length, take, drop, length-take, take-append-drop}
 use lib.Seq.{drop-append-le, take-take}
 use Rattle.fields.specs.Shape.{bytesOf, rowBytes}
-use Rattle.fields.specs.declared.shape.Shape.{Shape}
 use Rattle.network.specs.Network.{layerOf, tensorOf, placeOf, zeroOf}
 use Rattle.network.specs.Taken.{Taken}
 use Rattle.network.specs.declared.net.Network.{Network}
 use Rattle.network.proofs.Places.{tensors-apart, tensors-in}
-use Rattle.windows.specs.Lists.{pasted, joined, part}
-use Rattle.windows.proofs.Pasted.{part-part, pasted-length, part-before, part-after, joined-length}
+use Rattle.windows.specs.Lists.{pasted, joined, part, Apart}
+use Rattle.windows.proofs.Pasted.{apart-within, part-apart, part-part, pasted-length, joined-length}
 use Rattle.layers.specs.Row.{rowOf, tensorAt}
 use Rattle.layers.proofs.Lengths.{row-length}
+use Rattle.layers.proofs.Rows.{rows-in}
 use Rattle.bands.specs.declared.band.Band.{Band}
 use Rattle.bands.specs.declared.state.State.{State}
 use Rattle.checks.specs.Tensors.{linkOf}
@@ -38,14 +39,6 @@ front-pasted d k at s h g =
     sym (drop-append-le m (take k d) (drop k d) (omega (arith, long))) ∙ ap (drop m) (take-append-drop k d) in
     rw (append-assoc, rest, take-take at k d (omega arith))
 
--- the rows of a band stand within their tensor
-pub rows-inside : (x : Shape) (b : Band) → Fits (x .rows) b → b .first * rowBytes x + (b .end - b .first) * rowBytes x ≤ bytesOf x
-unfolding bytesOf
-rows-inside x b f =
-    let w = rowBytes x in
-    let all : b .first + (b .end - b .first) ≡ b .end = omega arith in
-    omega (arith, ap (λ (k : ℕ). k * w) all, mul-le-mul-right {m = b .end} {n = x .rows} w (f .1))
-
 module _ (file : List ℕ) (n : Network) (sums : List ℕ) (t : Taken file n) where
   -- the rows of a band of layer m
   pub rows-length :
@@ -63,7 +56,7 @@ module _ (file : List ℕ) (n : Network) (sums : List ℕ) (t : Taken file n) wh
     rows = joined (b .end - b .first) (λ k. rowFrom n file sums m area (b .first + k))
 
     rows-end : at + length rows ≤ placeOf n (suc m) + bytesOf (tensorOf n (suc m))
-    rows-end = omega (arith, rows-length m (b .first) (b .end - b .first) area h, rows-inside (tensorOf n (suc m)) b f)
+    rows-end = omega (arith, rows-length m (b .first) (b .end - b .first) area h, rows-in (tensorOf n (suc m)) (b .first) (b .end - b .first) (omega arith))
 
     rows-room : at + length rows ≤ length area
     rows-room = omega (arith, rows-end, tensors-in file n t (suc m) h)
@@ -72,17 +65,16 @@ module _ (file : List ℕ) (n : Network) (sums : List ℕ) (t : Taken file n) wh
     unfolding redone
     redone-length = pasted-length area at rows rows-room
 
-    -- what stands before the layer's tensor, and after it, is as it was
-    pub redone-before : (from k : ℕ) → from + k ≤ placeOf n (suc m) → part (redone n file sums m b area) from k ≡ part area from k
-    unfolding redone
-    redone-before from k g = part-before area rows at from k (omega arith) (omega (arith, rows-room))
-
-    pub redone-after :
+    -- what lies apart from the layer's tensor is as it was
+    pub redone-apart :
         (from k : ℕ) →
-        placeOf n (suc m) + bytesOf (tensorOf n (suc m)) ≤ from →
+        Apart from k (placeOf n (suc m)) (bytesOf (tensorOf n (suc m))) →
         part (redone n file sums m b area) from k ≡ part area from k
     unfolding redone
-    redone-after from k g = part-after area rows at from k (omega (arith, rows-end)) (omega (arith, rows-room))
+    redone-apart from k g =
+        part-apart area rows at from k
+        (apart-within k (bytesOf (tensorOf n (suc m))) k (length rows) g (omega arith) (omega (arith, rows-end)) (omega arith) (omega arith))
+        (omega (arith, rows-room))
 
     -- the same written into the bytes of the area that the tensors take
     pub front-redone :
@@ -104,7 +96,7 @@ module _ (file : List ℕ) (n : Network) (sums : List ℕ) (t : Taken file n) wh
         part-part area 0 (n .area) (placeOf n u) (bytesOf (layerOf n m .input)) g ∙
         ap (λ (p : ℕ). tensorAt area p (layerOf n m .input)) (zero-add (placeOf n u)) ∙
         ap (tensorAt area (placeOf n u)) e in
-        let o = other-shape file n m (layerOf n m) (layerOf n m .kind) (y .kind) (y .input) in
+        let o = other-shape file n m (layerOf n m) (y .kind) in
         let first = tensor m (omega (arith, input-before file n t m h, y .place-end)) (y .input) in
         let second = tensor (linkOf n m .other) (omega (arith, other-before file n t m h, y .place-end)) (sym (o .1)) in
         rw (first, second)
@@ -131,8 +123,8 @@ module _ (file : List ℕ) (n : Network) (sums : List ℕ) (t : Taken file n) wh
     unfolding updatedTo
     updated-before zero from k h g = refl
     updated-before (suc m) from k h g =
-        redone-before m (grownBandOf n s (suc m)) (updatedTo n file sums s m area) h (grown-fits m h)
-        (omega (arith, updated-length m (omega arith))) from k (omega (arith, first-least m h)) ∙
+        redone-apart m (grownBandOf n s (suc m)) (updatedTo n file sums s m area) h (grown-fits m h)
+        (omega (arith, updated-length m (omega arith))) from k (inl (omega (arith, first-least m h))) ∙
         updated-before m from k (omega arith) g
       where
         first-least : (m : ℕ) → m < n .count → placeOf n 1 ≤ placeOf n (suc m)
@@ -147,6 +139,6 @@ module _ (file : List ℕ) (n : Network) (sums : List ℕ) (t : Taken file n) wh
     unfolding updatedTo
     updated-beyond zero from k h g = refl
     updated-beyond (suc m) from k h g =
-        redone-after m (grownBandOf n s (suc m)) (updatedTo n file sums s m area) h (grown-fits m h)
-        (omega (arith, updated-length m (omega arith))) from k (omega (arith, tensors-in file n t (suc m) h)) ∙
+        redone-apart m (grownBandOf n s (suc m)) (updatedTo n file sums s m area) h (grown-fits m h)
+        (omega (arith, updated-length m (omega arith))) from k (inr (omega (arith, tensors-in file n t (suc m) h))) ∙
         updated-beyond m from k (omega arith) g

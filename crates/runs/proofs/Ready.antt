@@ -1,7 +1,7 @@
 -- A layer of a network that can run is ready for its rows.
 -- Assumes nothing.
 use Prim.Native.Nat.{ℕ, suc, _+_, _*_, _≤_, _<_, _^_}
-use mathlib.Core.Path.{_≡_, sym, ap}
+use mathlib.Core.Path.{_≡_, refl, ap, subst}
 use mathlib.Core.List.{List}
 use mathlib.Core.Logic.{inl}
 use native.Mathlib.Omega.{arith}
@@ -10,8 +10,7 @@ use lib.ListN.{length, getD}
 use Rattle.fields.specs.Bytes.{i32At}
 use Rattle.fields.specs.Shape.{bytesOf}
 use Rattle.fields.specs.Stored.{storedLen}
-use Rattle.records.specs.Layer.{sumsOf, termsOf, fixedOf}
-use Rattle.fields.specs.declared.shape.Shape.{Shape}
+use Rattle.records.specs.Layer.{sumsOf, termsOf, outputShape, otherOf, KindOk, KindFits, biasesAt, weightsAt}
 use Rattle.records.specs.declared.layer.Kind.{Kind}
 use Rattle.records.specs.declared.layer.Kind.the-variants.{Convolution, Fully, Addition}
 use Rattle.records.specs.declared.layer.Layer.{Layer}
@@ -61,51 +60,57 @@ stored-ready o n file sums w few terms short inside biases within small clamp mu
   shift-few = omega arith;
 }
 
+-- the weights of a layer of kind k follow its biases
+weights-after : (y : Layer) (k : Kind) → y .kind ≡ k → weightsAt y ≡ biasesAt y + 4 * sumsOf k
+weights-after y k e = ap (λ (x : Kind). biasesAt y + 4 * sumsOf x) e
+
 kind-ready :
-    (file : List ℕ) (n : Network) (m : ℕ) (y : Layer) (sums : List ℕ) (k : Kind) →
-    KindTaken file n m y k →
+    (y : Layer) (file sums : List ℕ) (k : Kind) →
+    y .kind ≡ k →
+    KindOk k →
+    KindFits k (y .input) →
+    y .output ≡ outputShape k (y .input) →
     termsOf k (y .input) ≤ 16384 →
     length file ≤ 65536 →
-    y .start + (fixedOf k + storedLen (sumsOf k) (termsOf k (y .input))) ≤ length file →
-    ((f : ℕ) → f < sumsOf k → natAbs (i32At file (y .start + fixedOf k + 4 * f)) ≤ 2 ^ 30) →
+    biasesAt y + storedLen (sumsOf k) (termsOf k (y .input)) ≤ length file →
+    ((f : ℕ) → f < sumsOf k → natAbs (i32At file (biasesAt y + 4 * f)) ≤ 2 ^ 30) →
     y .sums + sumsOf k ≤ length sums →
     ((f : ℕ) → f < sumsOf k → getD sums (y .sums + f) 0 ≤ 255 * termsOf k (y .input)) →
     KindReady k y file sums
-unfolding storedLen
-kind-ready file n m y sums (Convolution c) t terms short inside biases within small = record {
-  ok = t .ok;
-  rows-fit = t .rows-fit;
-  columns-fit = t .columns-fit;
-  output = t .output;
+kind-ready y file sums (Convolution c) e ok fit output terms short inside biases within small = record {
+  ok = ok;
+  fits = fit;
+  output = output;
   outputs =
-      stored-ready (convOutputs y c 0) _ file sums (omega arith) (omega (arith, t .ok .filters-few)) terms short (omega arith) biases within small
-      (t .ok .clamp) (t .ok .multiplier-few) (t .ok .shift-few);
+      stored-ready (convOutputs y c 0) _ file sums (weights-after y (Convolution c) e) (omega (arith, ok .filters-few)) terms short inside biases
+      within small (ok .clamp) (ok .multiplier-few) (ok .shift-few);
 }
-kind-ready file n m y sums (Fully f) t terms short inside biases within small = record {
-  ok = t .ok;
-  output = t .output;
+kind-ready y file sums (Fully f) e ok fit output terms short inside biases within small = record {
+  ok = ok;
+  output = output;
   outputs =
-      stored-ready (fullOutputs y f 0) _ file sums (omega arith) (t .ok .outputs-few) terms short (omega arith) biases within small
-      (t .ok .clamp) (t .ok .multiplier-few) (t .ok .shift-few);
+      stored-ready (fullOutputs y f 0) _ file sums (weights-after y (Fully f) e) (ok .outputs-few) terms short inside biases within small (ok .clamp)
+      (ok .multiplier-few) (ok .shift-few);
 }
-kind-ready file n m y sums (Addition a) t terms short inside biases within small = record { ok = t .ok; output = t .output }
+kind-ready y file sums (Addition a) e ok fit output terms short inside biases within small = record { ok = ok; output = output }
+
+-- the other tensor of a link is the one that the layer reads
+link-other : (k : Kind) (y : Layer) (m : ℕ) → otherOf k m ≡ linkBy k y m .other
+link-other (Convolution c) y m = refl
+link-other (Fully f) y m = refl
+link-other (Addition a) y m = refl
 
 -- a second input, or the first where there is one, has the shape of the first
-pub other-shape : (file : List ℕ) (n : Network) (m : ℕ) (y : Layer) (k : Kind) → KindTaken file n m y k → y .input ≡ tensorOf n m →
-    (linkBy k y m .other ≤ m) × (tensorOf n (linkBy k y m .other) ≡ y .input)
-other-shape file n m y (Convolution c) t e = (omega arith, sym e)
-other-shape file n m y (Fully f) t e = (omega arith, sym e)
-other-shape file n m y (Addition a) t e = (t .other-there, t .other-shape)
-
--- the shape of what a layer makes
-shaped-by : (file : List ℕ) (n : Network) (m : ℕ) (y : Layer) (k : Kind) → KindTaken file n m y k → ShapedBy k y
-shaped-by file n m y (Convolution c) t = t .output
-shaped-by file n m y (Fully f) t = t .output
-shaped-by file n m y (Addition a) t = t .output
+pub other-shape :
+    (file : List ℕ) (n : Network) (m : ℕ) (y : Layer) →
+    KindTaken file n m y →
+    (linkBy (y .kind) y m .other ≤ m) × (tensorOf n (linkBy (y .kind) y m .other) ≡ y .input)
+other-shape file n m y t =
+    subst (λ (j : ℕ). (j ≤ m) × (tensorOf n j ≡ y .input)) (link-other (y .kind) y m) (t .other-there, t .other-shape)
 
 module _ (file : List ℕ) (n : Network) (t : Taken file n) (m : ℕ) (h : m < n .count) where
   pub layer-shaped : ShapedBy (layerOf n m .kind) (layerOf n m)
-  layer-shaped = shaped-by file n m (layerOf n m) (layerOf n m .kind) (t .layers m h .kind)
+  layer-shaped = t .layers m h .kind .output
 
   -- both inputs end before the layer's own tensor begins
   pub input-before : placeOf n m + bytesOf (layerOf n m .input) ≤ layerOf n m .place
@@ -114,7 +119,7 @@ module _ (file : List ℕ) (n : Network) (t : Taken file n) (m : ℕ) (h : m < n
   pub other-before : placeOf n (linkOf n m .other) + bytesOf (layerOf n m .input) ≤ layerOf n m .place
   other-before =
       let y = t .layers m h in
-      let o = other-shape file n m (layerOf n m) (layerOf n m .kind) (y .kind) (y .input) in
+      let o = other-shape file n m (layerOf n m) (y .kind) in
       omega (arith, tensors-apart file n t (linkOf n m .other) (suc m) (omega (arith, o .0)) h, ap bytesOf (o .1))
 
 -- in the bytes of the area that the tensors take
@@ -139,7 +144,9 @@ layer-ready file n sums room m r h =
       second = placed (placeOf n (linkOf n m .other)) (other-before file n t m h);
       few = omega (arith, t .area-few);
       kind =
-          kind-ready file n m (layerOf n m) sums (layerOf n m .kind) (y .kind) (terms-few file n t m h) (t .file-few) (y .record-in)
+          kind-ready (layerOf n m) file sums (layerOf n m .kind) refl (y .kind .ok) (y .kind .fits) (y .kind .output) (terms-few file n t m h)
+          (t .file-few)
+          (omega (arith, y .record-in))
           (y .biases)
           (omega (arith, y .sums-end, r .sums-in))
           (λ f g. sums-passed n sums (r .sums-fit) m f h g);

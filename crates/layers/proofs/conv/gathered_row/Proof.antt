@@ -150,7 +150,7 @@ loop-again c =
     let tensor : sizeOf (w .result) ≡ bytesOf (a .y .input) = size-is (a .y) (a .c) (a .z) (w .ensures) in (
       omega (arith, v .0),
       omega (arith, v .1),
-      place-turn (w .result) (o .result) (now (a .file)) (now (a .sums)) (now (a .area)) (a .y .output .columns) (a .from) to (t .before .before .times .result) (a .c .stride) (l .before .loop .j)
+      place-turn (w .result) (o .result) (now (a .file)) (now (a .sums)) (now (a .area)) (a .y .output .columns) (a .from) to (t .before .before .times .result) (a .c .frame .stride) (l .before .loop .j)
           (apart-within (bytesOf (a .y .input)) (bytesOf (a .y .output)) _ _ (p .apart) (omega arith)
           (omega (arith, inside t, t .before .times2 .ensures .0)) (omega arith) (omega arith))
           (omega (arith, p .within, inside t)) (l .loop-test .taken) (v .0) (v .1) (v .2) (place .ensures) (place .kept .1 .1 .1 .1 .0),

@@ -68,7 +68,7 @@ returns-2 c =
     let t : ℕ → List ℕ = λ from. tensorAt d from (a .y .input) in
     let e = k .kind2 .given .1 in
     let one = ready-as (a .y) (Fully _) e (s .pre .0) .output in
-    c .before .before .full-row .ensures ∙ ap₂ (pasted d) (full-place (a .y) _ (a .i) one (s .pre .1 .0)) (row-as (a .y) (Fully _) e (a .z) (a .zr) (now (a .file)) (now (a .sums)) (t (a .from)) (t (a .other)) (a .i))
+    c .before .before .full-row .ensures ∙ ap₂ (pasted d) (full-place (a .y) (k .kind2 .given .0 .0) (a .i) one (s .pre .1 .0)) (row-as (a .y) (Fully _) e (a .z) (a .zr) (now (a .file)) (now (a .sums)) (t (a .from)) (t (a .other)) (a .i))
 
 same-length-4 : tie.Need-same-length-4
 same-length-4 c = search needs

@@ -42,7 +42,7 @@ inside c =
     let n = w .before .before .terms-of in
     let count = w .before .sums-of in
     let at = w .weights-at in
-    room (c .before .loop .f) (count .result) (n .result) (at .result) (c .before .loop .inv .0) (c .loop-test .taken) (rw (n .ensures, count .ensures, at .ensures) (s .pre .1 .0 .0))
+    room (c .before .loop .f) (count .result) (n .result) (at .result) (c .before .loop .inv .0) (c .loop-test .taken) (rw (n .ensures .0, count .ensures .0, at .ensures) (s .pre .1 .0 .0))
 
 add-e : tie.Need-add-e Inv-loop μ-loop
 add-e c = omega (arith, inside c)
@@ -61,7 +61,7 @@ byte-total-requires c κs =
     let l = c .before in
     let s = l .before .before .before .before .before .before .before in
     let n = l .before .before .before .before .terms-of in
-    rw (cut-length (now (s .args .file)) (l .before .loop .a) (n .result) (inside l), n .ensures) (s .pre .1 .1 .0)
+    rw (cut-length (now (s .args .file)) (l .before .loop .a) (n .result) (inside l), n .ensures .0) (s .pre .1 .1 .0)
 
 add-sums : tie.Need-add-sums Inv-loop μ-loop
 add-sums c = omega arith
