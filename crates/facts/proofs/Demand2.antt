@@ -14,7 +14,7 @@ use Rattle.numbers.proofs.Whole.{nat, less, times, size}
 use Rattle.numbers.proofs.Rescaled.{distance}
 use Rattle.numbers.proofs.Added.{offset-small, sum-small}
 use Rattle.fields.specs.Shape.{bytesOf}
-use Rattle.records.specs.Layer.{sumsOf, termsOf, fixedOf}
+use Rattle.records.specs.Layer.{sumsOf, termsOf, weightsAt}
 use Rattle.records.specs.declared.layer.Kind.{Kind}
 use Rattle.records.specs.declared.layer.Kind.the-variants.{Convolution, Fully, Addition}
 use Rattle.records.specs.declared.conv.Conv.{Conv}
@@ -26,9 +26,8 @@ use Rattle.windows.proofs.Pasted.{part-length, joined-same}
 use Rattle.windows.proofs.Windows.{window-length, window-bytes}
 use Rattle.network.specs.Network.{layerOf, tensorOf, placeOf, zeroOf}
 use Rattle.network.specs.Decode.{decodeOf}
-use Rattle.network.specs.Taken.{KindTaken}
 use Rattle.network.specs.declared.net.Network.{Network}
-use Rattle.network.proofs.Bounds.{conv-bytes, full-bytes, zeros-few}
+use Rattle.network.proofs.Bounds.{ByteZeros, kind-zeros, zeros-few}
 use Rattle.layers.specs.Outputs.{weightsOf, outputsOf, OutputsReady}
 use Rattle.layers.specs.Conv.{windowFor, convOutputs, convRow}
 use Rattle.layers.specs.Full.{fullOutputs}
@@ -63,15 +62,15 @@ outputs-direct o file sums q n e r s =
 conv-window :
     (y : Layer) (c : Conv) (z : ℕ) (t : List ℕ) (i j : ℕ)
     → length t ≡ bytesOf (y .input)
-    → length (windowOf (windowFor y c z) t i j) ≡ c .height * c .width * y .input .channels
-conv-window y c z t i j e = window-length (windowFor y c z) t i j (e ∙ sym (size-is y c z refl))
+    → length (windowOf (windowFor (y .input) (c .frame) z) t i j) ≡ termsOf (Convolution c) (y .input)
+conv-window y c z t i j e = window-length (windowFor (y .input) (c .frame) z) t i j (e ∙ sym (size-is y c z refl))
 
 -- a row of a layer that is ready, from a tensor of its input's size
 direct-by :
     (k : Kind) (y : Layer) (z z′ : ℕ) (file sums t t′ : List ℕ) (i : ℕ)
     → KindReady k y file sums
     → length t ≡ bytesOf (y .input)
-    → ((f : ℕ) → f < sumsOf k → getD sums (y .sums + f) 0 ≡ sum (weightsOf file (y .start + fixedOf k + 4 * sumsOf k) (termsOf k (y .input)) f))
+    → ((f : ℕ) → f < sumsOf k → getD sums (y .sums + f) 0 ≡ sum (weightsOf file (weightsAt y) (termsOf k (y .input)) f))
     → rowBy k y z z′ file sums t t′ i ≡ directBy k y z z′ file t t′ i
 unfolding convRow
 direct-by (Convolution c) y z z′ file sums t t′ i r e s =
@@ -91,8 +90,8 @@ offset-most q z x hq hz hm = omega (arith, offset-small q z (x .multiplier) (x .
 
 -- the totals of a layer that is ready, from a tensor of bytes
 totals-by :
-    (k : Kind) (n : Network) (m : ℕ) (y : Layer) (z z′ : ℕ) (file sums t : List ℕ)
-    → KindTaken file n m y k
+    (k : Kind) (y : Layer) (z z′ : ℕ) (file sums t : List ℕ)
+    → ByteZeros k
     → KindReady k y file sums
     → Bytes file
     → Bytes t
@@ -100,12 +99,12 @@ totals-by :
     → z ≤ 255
     → z′ ≤ 255
     → TotalsBy k y z z′ file sums t
-totals-by (Convolution c) n m y z z′ file sums t taken r bf bt e hz hz′ = λ i j f h.
-    total-within (convOutputs y c z) file sums (windowOf (windowFor y c z) t i j) _ f (ready-any (convOutputs y c 0) z _ (r .outputs)) h
-    (conv-window y c z t i j e) (window-bytes (windowFor y c z) t i j bt hz) bf hz (conv-bytes file bf y c taken .0)
-totals-by (Fully g) n m y z z′ file sums t taken r bf bt e hz hz′ = λ f h.
-    total-within (fullOutputs y g z) file sums t _ f (ready-any (fullOutputs y g 0) z _ (r .outputs)) h e bt bf hz (full-bytes file bf y g taken .0)
-totals-by (Addition a) n m y z z′ file sums t taken r bf bt e hz hz′ = λ q q′ hq hq′. (
+totals-by (Convolution c) y z z′ file sums t zeros r bf bt e hz hz′ = λ i j f h.
+    total-within (convOutputs y c z) file sums (windowOf (windowFor (y .input) (c .frame) z) t i j) _ f (ready-any (convOutputs y c 0) z _ (r .outputs)) h
+    (conv-window y c z t i j e) (window-bytes (windowFor (y .input) (c .frame) z) t i j bt hz) bf hz (zeros .0)
+totals-by (Fully g) y z z′ file sums t zeros r bf bt e hz hz′ = λ f h.
+    total-within (fullOutputs y g z) file sums t _ f (ready-any (fullOutputs y g 0) z _ (r .outputs)) h e bt bf hz (zeros .0)
+totals-by (Addition a) y z z′ file sums t zeros r bf bt e hz hz′ = λ q q′ hq hq′. (
   scaled-small q z hq hz,
   scaled-small q′ z′ hq′ hz′,
   sum-small (offset q z (a .first .multiplier) (a .first .shift)) (offset q′ z′ (a .second .multiplier) (a .second .shift))
@@ -155,8 +154,8 @@ pub totals-fit : TotalsFit
 totals-fit file sums area s bf ba p m h =
     let n = decodeOf file .network in
     let t = can-run file sums (length area) s p .taken in
-    totals-by (layerOf n m .kind) n m (layerOf n m) (zeroOf n m) (zeroOf n (linkOf n m .other)) file sums _
-    (t .layers m h .kind)
+    totals-by (layerOf n m .kind) (layerOf n m) (zeroOf n m) (zeroOf n (linkOf n m .other)) file sums _
+    (kind-zeros file bf n t m h)
     (ready file sums area s p m h .kind)
     bf
     (input-bytes file sums area s p m h ba)

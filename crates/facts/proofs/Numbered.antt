@@ -11,18 +11,18 @@ use Rattle.fields.specs.Bytes.{byteAt}
 use Rattle.fields.specs.Faults.{first, within, biasFault, clampFault, paddingFault, spareFault, cutFault}
 use Rattle.fields.specs.Shape.{sizeFault}
 use Rattle.fields.specs.Stored.{biasFaults, storedFault}
-use Rattle.records.specs.Layer.{answer}
-use Rattle.records.specs.Mark.{markAt, fixedLen}
-use Rattle.records.specs.Conv.{convShape, readConvAs}
-use Rattle.records.specs.Full.{readFull}
-use Rattle.records.specs.Add.{addShape, readAdd}
+use Rattle.fields.specs.declared.shape.Shape.{Shape}
+use Rattle.records.specs.Reader.{ownFault, suitFault, answer, readAs}
+use Rattle.records.specs.declared.layer.Kind.{Kind}
+use Rattle.records.specs.declared.layer.Kind.the-variants.{Convolution, Fully, Addition}
 use Rattle.records.specs.declared.layer.Layer.{Layer}
-use Rattle.records.specs.declared.layer.Read.{Read}
-use Rattle.records.specs.declared.layer.Read.the-variants.{Refused, Found}
 use Rattle.records.specs.declared.mark.Mark.{Mark}
 use Rattle.records.specs.declared.mark.Mark.the-variants.{CV, FU, AD, Other}
+use Rattle.records.specs.declared.reader.Before.{Before}
+use Rattle.records.specs.declared.reader.Read.{Read}
+use Rattle.records.specs.declared.reader.Read.the-variants.{Refused, Found}
 use Rattle.network.specs.Head.{pictureAt, headMark, headFault}
-use Rattle.network.specs.Decode.{readMarked, unlessCut, readLayer, stopped, started, startOf, pushed, stepRead, stepFrom, stepOf, runOf, endFault, decodedAs, ranOf, decodeOf}
+use Rattle.network.specs.Decode.{readLayer, stopped, started, startOf, pushed, stepRead, stepFrom, stepOf, runOf, endFault, decodedAs, ranOf, decodeOf}
 use Rattle.network.specs.declared.net.Network.{Network}
 use Rattle.network.specs.declared.file.Progress.{Progress}
 
@@ -41,11 +41,6 @@ cond-most false p q = q
 ruleset most = (first-most, cond-most, le-by-compare)
 
 -- ---- the tests
-
--- bytes that are not there
-cut-most : (s : List ℕ) (at n : ℕ) → cutFault s at n ≤ 3
-unfolding IsLe cutFault
-cut-most s at n = search most
 
 -- the head
 head-most : (s : List ℕ) → headFault s ≤ 3
@@ -76,22 +71,25 @@ unfolding answer
 answer-most zero y next h = omega arith
 answer-most (suc k) y next h = h
 
--- the record of a mark
-marked-most : (m : Mark) (s : List ℕ) (at : ℕ) (n : Network) (made : ℕ) → Most (readMarked m s at n made)
-unfolding IsLe readConvAs readFull readAdd convShape addShape storedFault cutFault spareFault within clampFault paddingFault sizeFault
-marked-most CV s at n made = answer-most _ _ _ (search (most, biases-most) depth 20)
-marked-most FU s at n made = answer-most _ _ _ (search (most, biases-most) depth 20)
-marked-most AD s at n made = answer-most _ _ _ (search (most, biases-most) depth 20)
-marked-most Other s at n made = omega arith
+-- a record's own faults
+own-most : (m : Mark) (s : List ℕ) (at : ℕ) → ownFault m s at ≤ 3
+unfolding IsLe ownFault spareFault within clampFault paddingFault
+own-most CV s at = search most depth 20
+own-most FU s at = search most depth 20
+own-most AD s at = search most depth 20
+own-most Other s at = omega arith
+
+-- an input that does not suit it
+suit-most : (k : Kind) (b : Before) (other : Shape) → suitFault k b other ≤ 3
+unfolding IsLe suitFault
+suit-most (Convolution c) b other = search most
+suit-most (Fully f) b other = omega arith
+suit-most (Addition a) b other = search most
 
 -- the next record
 layer-most : (s : List ℕ) (at : ℕ) (n : Network) (made : ℕ) → Most (readLayer s at n made)
-unfolding readLayer
-layer-most s at n made = unless-cut (cutFault s at (fixedLen (markAt s at))) (cut-most s at _)
-  where
-    unless-cut : (k : ℕ) → k ≤ 3 → Most (unlessCut k (readMarked (markAt s at) s at n made))
-    unless-cut zero h = marked-most (markAt s at) s at n made
-    unless-cut (suc k) h = h
+unfolding IsLe readLayer readAs storedFault cutFault sizeFault
+layer-most s at n made = answer-most _ _ _ (search (most, own-most, suit-most, biases-most) depth 20)
 
 -- ---- the file
 

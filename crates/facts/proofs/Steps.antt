@@ -44,7 +44,7 @@ use Rattle.facts.specs.History.Reached.{begin, then, written}
 use Rattle.facts.proofs.Model.{Alike, Present, netOf, parOf, model, layout}
 use Rattle.facts.proofs.Laws.{model-laws, model-laid, model-room}
 use Rattle.facts.proofs.Runs.{sets-pasted, row-is, grown-alike, model-grown, run-over}
-use Rattle.facts.proofs.Alike.{alike-same, rewrittenFile, passes-nine, exchanged}
+use Rattle.facts.proofs.Alike.{alike-same, rewrittenFile, nine-kindred, exchanged}
 use Rattle.facts.proofs.Exact.{passed-bands}
 use Rattle.facts.proofs.Stored.{true-each, true-all, true-filled, others-kept, refilled-length, true-again}
 
@@ -241,7 +241,7 @@ module _ (s : System) (k : Keeps s) where
         bands = bands;
         sums =
             true-all file (networkOf s′) anew (s′ .sums) (λ i h.
-            true-again (s .file) m r (networkOf s′) x begun few (passes-nine (s .file) m r (k .taken) few nine .kindred)
+            true-again (s .file) m r (networkOf s′) x begun few (nine-kindred (s .file) m r (k .taken) few nine)
             (s .sums) (k .store-in) (true-each (s .file) n begun (s .sums) (k .sums)) i (omega (arith, x .alike .count)));
         rows =
             rows-kept n s′ anew (x .alike) room bands

@@ -17,7 +17,8 @@ use Rattle.network.specs.Decode.{decodeOf}
 use Rattle.network.specs.Taken.{Taken}
 use Rattle.network.specs.declared.net.Network.{Network}
 use Rattle.network.proofs.Places.{sums-apart, sums-in}
-use Rattle.network.proofs.Kindred.{kindFrom, layerAs, Kindred}
+use Rattle.records.specs.Reader.{kindAt}
+use Rattle.network.proofs.Kindred.{layerAs, Kindred, kindred-sums, kindred-terms}
 use Rattle.windows.specs.Lists.{pasted, joined, part}
 use Rattle.windows.proofs.Pasted.{part-part, part-pasted, pasted-length, part-before, part-after}
 use Rattle.layers.specs.Sums.{layerSums}
@@ -73,7 +74,7 @@ module _ (file : List ℕ) (n : Network) (t : Taken file n) where
 -- a layer with kindred parameters has the same true sums
 pub sums-kindred : (y : Layer) (κ : Kind) (file : List ℕ) → Kindred (y .kind) κ → layerSums (layerAs y κ) file ≡ layerSums y file
 unfolding layerSums
-sums-kindred y κ file h = rw (h .fixed, h .sums, h .terms (y .input))
+sums-kindred y κ file h = rw (kindred-sums (y .kind) κ h, kindred-terms (y .kind) κ h (y .input))
 
 -- a store has the true sums of a layer
 abbrev TrueOf : List ℕ → List ℕ → Layer → Type 0
@@ -111,7 +112,7 @@ module _
     (x : Exchanged s k r n′)
     (t : Taken s (decodeOf s .network))
     (few : k < decodeOf s .network .count)
-    (like : Kindred (layerOf (decodeOf s .network) k .kind) (kindFrom (layerOf (decodeOf s .network) k .kind) r))
+    (like : Kindred (layerOf (decodeOf s .network) k .kind) (kindAt (layerOf (decodeOf s .network) k .mark) r 0))
     (sums : List ℕ)
     (room : decodeOf s .network .store ≤ length sums)
     (each : (m : ℕ) → m < decodeOf s .network .count → TrueSums (decodeOf s .network) s sums m) where
@@ -128,7 +129,7 @@ module _
         | yes e ↦
             rw e
             (subst⁻¹ (TrueOf file (refilled n k file sums)) (x .layer)
-            (part-pasted sums (layerSums y file) (y .sums) _ (sums-length y file ∙ sym (like .sums)) (omega (arith, sums-in s n t k few)) ∙
+            (part-pasted sums (layerSums y file) (y .sums) _ (sums-length y file ∙ sym (kindred-sums (y .kind) (kindAt (y .mark) r 0) like)) (omega (arith, sums-in s n t k few)) ∙
             sym (sums-kindred y _ file like)))
         | no e ↦
             subst⁻¹ (TrueOf file (refilled n k file sums)) (x .others m e)

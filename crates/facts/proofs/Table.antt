@@ -6,8 +6,8 @@ use Rattle.fields.specs.Faults.{first, within, biasFault, clampFault, paddingFa
 use Rattle.records.specs.Mark.{isMark, markAt}
 use Rattle.fields.specs.Shape.{bytesOf, sizeFault}
 use Rattle.fields.specs.Stored.{biasFaults, storedLen, storedFault}
-use Rattle.records.specs.Layer.{answer}
-use Rattle.records.specs.Conv.{convOutput, convShape, convTerms, readConvAs}
+use Rattle.records.specs.Reader.{ownFault, suitFault, answer, readAs}
+use Rattle.records.specs.Frame.{fits, frameOutput}
 use Rattle.network.specs.Head.{pictureAt, headMark, headFault}
 use Rattle.network.specs.Decode.{readLayer, stopped, started, startOf, pushed, stepOf, runOf, endFault, decodedAs, decodeOf}
 use Rattle.windows.specs.Lists.{pasted, joined}
@@ -29,7 +29,7 @@ use Rattle.facts.specs.Table.{Table}
 
 pub table : Table
 unfolding signed first within biasFault clampFault paddingFault spareFault cutFault isMark markAt bytesOf sizeFault biasFaults storedLen
-    storedFault answer convOutput convShape convTerms readConvAs pictureAt headMark headFault readLayer stopped started startOf pushed stepOf
+    storedFault fits frameOutput ownFault suitFault answer readAs pictureAt headMark headFault readLayer stopped started startOf pushed stepOf
     runOf endFault decodedAs decodeOf pasted joined cellOf stripOf windowOf outputOf outputsOf convRow addByte layerSums every some cover span
     isReached reachedBand growOne grown stateFault bandTable loaded numbers roomFault layerSumsFit sumsFault loadFault callFault rowsFault
     redone updatedTo bytesIn countTo loadOf changeOf updateOf

@@ -45,7 +45,7 @@ directOutputs o file q = joined (o .count) (λ f. directByte o file q f ∷ [])
 -- row i of a layer; an add has no weights
 abbrev pub directBy : Kind → Layer → ℕ → ℕ → List ℕ → List ℕ → List ℕ → ℕ → List ℕ
 directBy (Convolution c) y z z′ file t t′ i =
-    joined (y .output .columns) (λ j. directOutputs (convOutputs y c z) file (windowOf (windowFor y c z) t (i * c .stride) (j * c .stride)))
+    joined (y .output .columns) (λ j. directOutputs (convOutputs y c z) file (windowOf (windowFor (y .input) (c .frame) z) t (i * c .frame .stride) (j * c .frame .stride)))
 directBy (Fully f) y z z′ file t t′ i = directOutputs (fullOutputs y f z) file t
 directBy (Addition a) y z z′ file t t′ i = addRow a z z′ (rowBytes (y .output)) t t′ i
 
@@ -72,7 +72,7 @@ AllBytes l = (i : ℕ) → getD l i 0 ≤ 255
 -- every total of a layer, with any sums that test 6 lets pass: of output f at any window, or of an add's bytes q and q′
 abbrev pub TotalsBy : Kind → Layer → ℕ → ℕ → List ℕ → List ℕ → List ℕ → Type 0
 TotalsBy (Convolution c) y z z′ file sums t =
-    (i j f : ℕ) → f < c .filters → natAbs (totalAt (convOutputs y c z) file sums (windowOf (windowFor y c z) t i j) f) ≤ 2139111424
+    (i j f : ℕ) → f < c .filters → natAbs (totalAt (convOutputs y c z) file sums (windowOf (windowFor (y .input) (c .frame) z) t i j) f) ≤ 2139111424
 TotalsBy (Fully g) y z z′ file sums t = (f : ℕ) → f < g .outputs → natAbs (totalAt (fullOutputs y g z) file sums t f) ≤ 2139111424
 TotalsBy (Addition a) y z z′ file sums t =
     (q q′ : ℕ) → q ≤ 255 → q′ ≤ 255

@@ -45,7 +45,7 @@ abbrev pub totalIn : ℕ → ℕ → ℤ
 totalIn t i =
     let y : Layer = layerOf (decodeOf K .network) 0 in
     let c : Conv = convAt K 10 in
-    totalAt (convOutputs y c 10) K (t ∷ []) (windowOf (windowFor y c 10) (20 ∷ 30 ∷ 40 ∷ []) i 0) 0
+    totalAt (convOutputs y c 10) K (t ∷ []) (windowOf (windowFor (y .input) (c .frame) 10) (20 ∷ 30 ∷ 40 ∷ []) i 0) 0
 
 -- multipliers all 2^30, shifts 0, 0, 18, output zero-point 5, clamp 0..255
 abbrev pub sampleAdd : Add
