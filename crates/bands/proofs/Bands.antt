@@ -107,16 +107,6 @@ cover-canon a b p q = cover-cases Canon a b (λ _. q) (λ _ _. p) (λ h k. inl (
 pub cover-below : (n : ℕ) (a b : Band) → a .end ≤ n → b .end ≤ n → cover a b .end ≤ n
 cover-below n a b p q = cover-cases (λ x. x .end ≤ n) a b (λ _. q) (λ _ _. p) (λ _ _. omega arith)
 
--- one band, taken twice, is taken once
-pub cover-twice : (b : Band) → cover b b ≡ b
-cover-twice b = cover-cases (λ x. x ≡ b) b b (λ _. refl) (λ _ _. refl) (λ _ _ t. record { first = lo t; end = up t })
-  where
-    lo : min (b .first) (b .first) ≡ b .first
-    lo = omega arith
-
-    up : max (b .end) (b .end) ≡ b .end
-    up = omega arith
-
 -- ---- the smallest band covering the rows below n that a test picks
 
 module _ (p : ℕ → Bool) where

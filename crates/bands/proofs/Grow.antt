@@ -15,10 +15,7 @@ use Rattle.bands.specs.State.{bandOf, withBand}
 use Rattle.bands.specs.Reach.{reachedBand}
 use Rattle.bands.specs.Grow.{grownBand, growOne, grown}
 use Rattle.bands.specs.History.{put, growStep, growTo, grownOf}
-use Rattle.bands.specs.Windows.{Shape, rowsIn, windowed}
-use Rattle.bands.proofs.Bands.{cover-below}
-use Rattle.bands.proofs.Reached.{reached-within, reached-canon}
-use Rattle.bands.proofs.States.{Fair, canon-fair, cover-fair, with-each}
+use Rattle.bands.specs.Windows.{Shape, windowed}
 use Rattle.bands.proofs.History.{put-same, put-other, grow-keeps}
 
 -- what the code does for a layer is one layer's step
@@ -33,32 +30,6 @@ pub length-grow : (s : State) (links : ℕ → Link) (m : ℕ) → length (grown
 unfolding grown growOne
 length-grow s links zero = refl
 length-grow s links (suc m) = simp length-set (length-grow s links m)
-
--- ---- what holds of each band given, of what is reached and of what covers two holds of each grown band
-
-module _ (P : ℕ → Band → Type 0) (links : ℕ → Link) (n : ℕ) where
-  pub grow-each : ((m : ℕ) (a b : Band) → m < n → P (suc m) a → P (suc m) b → P (suc m) (cover a b))
-      → ((m : ℕ) (b : Band) → m < n → P (suc m) (reachedBand b (links m)))
-      → (s : State) → ((t : ℕ) → P t (bandOf s t)) → (m : ℕ) → m ≤ n → (t : ℕ) → P t (bandOf (grown s links m) t)
-  unfolding grown growOne
-  grow-each both one s h zero hm t = h t
-  grow-each both one s h (suc m) hm t =
-      let before = grow-each both one s h m (omega arith) in
-      with-each P (grown s links m) (suc m) _ (both m _ _ hm (before (suc m)) (both m _ _ hm (one m _ hm) (one m _ hm))) t (before t)
-
--- bands stay below a bound of the tensors' rows
-pub grow-small : (k : ℕ) (links : ℕ → Link) (n : ℕ) → ((m : ℕ) → m < n → links m .rows ≤ k)
-    → (s : State) → ((t : ℕ) → bandOf s t .end ≤ k) → (m : ℕ) → m ≤ n → (t : ℕ) → bandOf (grown s links m) t .end ≤ k
-grow-small k links n small =
-    grow-each (λ t b. b .end ≤ k) links n (λ m a b hm. cover-below k a b) (λ m b hm. omega (arith, reached-within b (links m), small m hm))
-
--- bands that passed test 5 stay so
-pub grow-good : (G : Shape) (s : State) → ((t : ℕ) → t ≤ G .n → Fair (rowsIn G t) (bandOf s t))
-    → (m : ℕ) → m ≤ G .n → (t : ℕ) → t ≤ G .n → Fair (rowsIn G t) (bandOf (grown s (G .links) m) t)
-grow-good G =
-    grow-each (λ t b. t ≤ G .n → Fair (rowsIn G t) b) (G .links) (G .n)
-    (λ m a b hm p q ht. cover-fair _ a b (p ht) (q ht))
-    (λ m b hm ht. canon-fair _ _ (reached-within b (G .links m)) (reached-canon b (G .links m)))
 
 -- ---- the state's bands are the model's
 

@@ -1,6 +1,6 @@
 // The state by value, its test, and the state that each call leaves.
 ghost use mathlib.Core.Path.{_≡_};
-ghost use Prim.Native.Nat.{_≤_, _<_};
+ghost use Prim.Native.Nat.{_<_};
 ghost use Rattle.bands.specs.State.{bandOf, withBand, allStale, allEmpty, fair, absent, stateFault, clean as isClean, loaded, changed, replaced};
 use crate::band::Band;
 use crate::band::cover;

@@ -1,11 +1,11 @@
 -- The 34 numbers, written two by two.
 -- Assumes nothing.
 use Prim.Native.Nat.{ℕ, zero, suc, _+_, _*_, _≤_}
-use mathlib.Core.Path.{_≡_, refl, sym, ap, _∙_}
+use mathlib.Core.Path.{_≡_, refl, ap, _∙_}
 use mathlib.Core.List.{List, [], _∷_, _++_, append-assoc}
 use native.Mathlib.Omega.{arith}
 use lib.ListN.{length, getD, set, take, drop, length-append}
-use lib.Seq.{sets, sets-eq, length-take-le, take-at, take-suc, take-all}
+use lib.Seq.{sets-eq, length-take-le, take-at, take-suc, take-all}
 use Rattle.bands.specs.Band.{band}
 use Rattle.bands.specs.State.{bandOf}
 use Rattle.bands.specs.declared.state.State.{State}

@@ -4,7 +4,7 @@ use Prim.Native.Nat.{ℕ, _+_, _*_, _^_}
 use mathlib.Core.Path.{_≡_}
 use mathlib.Core.List.{List, [], _∷_, _++_}
 use lib.IntN.{ℤ, pos, negℤ, natAbs, _-ℤ_, _*ℤ_}
-use lib.ListN.{getD, set, take, replicate}
+use lib.ListN.{take, replicate}
 use Rattle.numbers.specs.Total.{totalOf, sum}
 use Rattle.numbers.specs.Rescale.{rescaled, slack}
 use Rattle.records.specs.declared.layer.Layer.{Layer}

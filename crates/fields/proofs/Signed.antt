@@ -1,14 +1,12 @@
 -- Numbers that the file's bytes make: how large they are, and the signed ones.
 -- Assumes nothing.
-use Prim.Native.Nat.{ℕ, _+_, _-_, _^_, _≤_, _<_}
+use Prim.Native.Nat.{ℕ, _-_, _^_, _≤_, _<_}
 use mathlib.Core.Path.{_≡_, ap, _∙_}
-use mathlib.Core.List.{List}
 use native.Mathlib.Omega.{arith}
 use borrow.Author.Tests.{lt-ltb, le-ltb}
 use lib.IntN.{pos, natAbs}
-use lib.ListN.{getD}
 use Rattle.numbers.proofs.Whole.{_≐_⊖_, nat, again, less, size}
-use Rattle.fields.specs.Bytes.{u16At, u32At, signed}
+use Rattle.fields.specs.Bytes.{signed}
 
 -- from 2^31 on a number stands for the one 2^32 below it
 pub signed-low : (x : ℕ) → x < 2 ^ 31 → signed x ≡ pos x
@@ -24,11 +22,3 @@ size-low x p = ap natAbs (signed-low x p) ∙ omega (arith, size (nat x))
 
 pub size-high : (x : ℕ) → 2 ^ 31 ≤ x → x ≤ 2 ^ 32 → natAbs (signed x) ≡ 2 ^ 32 - x
 size-high x p q = omega (arith, size (signed-high x p))
-
--- a file of bytes
-module _ (s : List ℕ) (bytes : (i : ℕ) → getD s i 0 ≤ 255) where
-  pub u16-few : (at : ℕ) → u16At s at ≤ 65535
-  u16-few at = omega (arith, bytes at, bytes (at + 1))
-
-  pub u32-few : (at : ℕ) → u32At s at < 2 ^ 32
-  u32-few at = omega (arith, bytes at, bytes (at + 1), bytes (at + 2), bytes (at + 3))

@@ -5,10 +5,10 @@ use mathlib.Core.Path.{_≡_, refl, sym, _∙_, ap}
 use mathlib.Core.Bool.{Bool, true, false, cond, _&&_}
 use mathlib.Core.List.{List}
 use native.Mathlib.Omega.{arith}
-use borrow.Author.Tests.{le-leb, lt-leb, leb-true, ltb-true, eqb-true}
-use lib.Dec.{eqb, leb, ltb}
+use borrow.Author.Tests.{le-leb, lt-leb, leb-true, ltb-true}
+use lib.Dec.{leb, ltb}
 use lib.ListN.{length}
-use Rattle.fields.specs.Faults.{unless, first, within, clampFault, paddingFault, spareFault, cutFault}
+use Rattle.fields.specs.Faults.{unless, first, within, clampFault, paddingFault, cutFault}
 
 -- a number in a range, below it and above it
 pub inside : (low high x : ℕ) → low ≤ x → x ≤ high → 0 ≡ within low high x
@@ -84,10 +84,6 @@ unfolding paddingFault
 padding-in p height width h =
     let q = cond-none (ltb p height) (unless (ltb p width) 2) 1 h in
     (ltb-true p height (q .0), ltb-true p width (unless-none (ltb p width) 1 (q .1)))
-
-pub spare-in : (x : ℕ) → spareFault x ≡ 0 → x ≡ 0
-unfolding spareFault
-spare-in x p = eqb-true x 0 (unless-none (eqb x 0) 0 p)
 
 pub cut-there : (s : List ℕ) (at n : ℕ) → at ≤ length s → cutFault s at n ≡ 0 → at + n ≤ length s
 unfolding cutFault

@@ -1,9 +1,8 @@
 -- The total of an output by the numbers as the code has them, and the outputs at one window.
 -- Assumes nothing.
-use mathlib.Core.Path.{_≡_, refl, _∙_}
-use mathlib.Core.List.{List, [], _∷_}
+use mathlib.Core.Path.{_≡_}
+use mathlib.Core.List.{List}
 use Prim.Native.Nat.{ℕ, _+_, _*_, _^_, _≤_}
-use native.Mathlib.Nat.{mul-one}
 use lib.IntN.{ℤ, natAbs}
 use lib.ListN.{length, getD}
 use Rattle.numbers.specs.Total.{Sums, sum, dot, totalFrom, totalOf}
@@ -12,8 +11,7 @@ use Rattle.numbers.specs.Finish.{finished}
 use Rattle.numbers.proofs.Totals.{sums, within}
 use Rattle.fields.specs.Bytes.{i32At}
 use Rattle.windows.proofs.Bytes.{Bytes}
-use Rattle.windows.proofs.Pasted.{joined-length}
-use Rattle.layers.specs.Outputs.{weightsOf, outputOf, outputsOf, OutputsReady}
+use Rattle.layers.specs.Outputs.{weightsOf, outputOf, OutputsReady}
 use Rattle.layers.specs.declared.outputs.Outputs.{Outputs}
 
 module _ (b : ℤ) (q w : List ℕ) (t z v : ℕ) {b′ : ℤ} {products bytes : ℕ} (eb : b′ ≡ b) (ep : products ≡ dot q w) (es : bytes ≡ sum q) where

@@ -1,6 +1,6 @@
 -- A row of a layer of any kind, and what its work needs.
 -- Assumes nothing.
-use Prim.Native.Nat.{ℕ, _+_, _*_, _≤_}
+use Prim.Native.Nat.{ℕ, _+_, _≤_}
 use mathlib.Core.Path.{_≡_}
 use mathlib.Core.List.{List}
 use Rattle.fields.specs.Shape.{bytesOf, GoodShape, rowBytes}

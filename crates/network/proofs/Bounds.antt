@@ -1,7 +1,7 @@
 -- How large the numbers of a network are that a file holds.
 -- Assumes nothing.
 use Prim.Native.Nat.{ℕ, zero, suc, _+_, _*_, _≤_, _<_}
-use mathlib.Core.Path.{ap, sym, subst⁻¹}
+use mathlib.Core.Path.{ap, subst⁻¹}
 use mathlib.Core.List.{List}
 use native.Mathlib.Omega.{arith}
 use lib.ListN.{getD}
@@ -15,8 +15,8 @@ use Rattle.records.specs.declared.layer.Kind.the-variants.{Convolution, Fully, 
 use Rattle.records.specs.declared.mark.Mark.{Mark}
 use Rattle.records.specs.declared.mark.Mark.the-variants.{CV, FU, AD, Other}
 use Rattle.records.proofs.Ranges.{sums-few as sums-by}
-use Rattle.network.specs.Network.{layerOf, tensorOf, zeroBy, zeroOf}
-use Rattle.network.specs.Taken.{KindTaken, Taken}
+use Rattle.network.specs.Network.{layerOf, zeroBy, zeroOf}
+use Rattle.network.specs.Taken.{Taken}
 use Rattle.network.specs.declared.net.Network.{Network}
 
 -- N is at most 7 × 7 × 256, or the bytes of the input

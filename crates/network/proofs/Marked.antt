@@ -1,6 +1,6 @@
 -- The record of the next layer, as it is taken.
 -- Assumes nothing.
-use Prim.Native.Nat.{ℕ, _+_, _*_, _^_, _≤_, _<_, min}
+use Prim.Native.Nat.{ℕ, _+_, _*_, _^_, _≤_, _<_}
 use mathlib.Core.Path.{_≡_, refl, sym, _∙_, ap, subst⁻¹}
 use mathlib.Core.List.{List}
 use native.Mathlib.Omega.{arith}
@@ -11,7 +11,7 @@ use Rattle.fields.specs.Bytes.{i32At}
 use Rattle.fields.specs.Shape.{bytesOf, GoodShape}
 use Rattle.records.specs.Mark.{markAt}
 use Rattle.records.specs.Layer.{sumsOf, otherOf, biasesAt, recordLen}
-use Rattle.records.specs.Reader.{kindAt, suitFault, layerWith}
+use Rattle.records.specs.Reader.{kindAt, suitFault}
 use Rattle.records.specs.declared.layer.Kind.{Kind}
 use Rattle.records.specs.declared.layer.Kind.the-variants.{Convolution, Fully, Addition}
 use Rattle.records.specs.declared.layer.Layer.{Layer}

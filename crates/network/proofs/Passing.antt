@@ -7,20 +7,19 @@ use native.Mathlib.Omega.{arith}
 use lib.ListN.{length}
 use Rattle.fields.specs.Faults.{cutFault}
 use Rattle.fields.specs.Shape.{sizeFault}
-use Rattle.fields.specs.Stored.{storedLen, storedFault}
+use Rattle.fields.specs.Stored.{storedFault}
 use Rattle.fields.specs.declared.shape.Shape.{Shape}
 use Rattle.fields.proofs.Tests.{first-both, first-none}
-use Rattle.records.specs.Mark.{markAt, fixedLen, agreeing}
+use Rattle.records.specs.Mark.{markAt, fixedLen}
 use Rattle.records.specs.Layer.{sumsOf, termsOf, recordLen}
-use Rattle.records.specs.Reader.{kindAt, suitFault, layerWith, readAs}
+use Rattle.records.specs.Reader.{kindAt, suitFault, layerWith}
 use Rattle.records.specs.declared.layer.Kind.{Kind}
 use Rattle.records.specs.declared.layer.Layer.{Layer}
 use Rattle.records.specs.declared.mark.Mark.{Mark}
-use Rattle.records.specs.declared.mark.Mark.the-variants.{CV, FU, AD, Other}
 use Rattle.records.specs.declared.reader.Read.the-variants.{Found}
 use Rattle.records.proofs.Answers.{Answered, Passes, FoundAs, read-passes, found-as, passes-found}
 use Rattle.network.specs.Network.{tensorOf}
-use Rattle.network.specs.Decode.{beforeOf, otherShape, readMarked, readLayer}
+use Rattle.network.specs.Decode.{beforeOf, otherShape, readLayer}
 use Rattle.network.specs.declared.net.Network.{Network}
 use Rattle.network.proofs.Replaced.{agreeing-in, biases-in-record}
 use Rattle.network.proofs.Rewritten.{Same}

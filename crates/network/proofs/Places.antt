@@ -49,10 +49,6 @@ module _ (s : List ℕ) (n : Network) (t : Taken s n) where
   pub records-in : (m : ℕ) → m < n .count → layerOf n m .start + recordLen (layerOf n m) ≤ length s
   records-in m h = t .layers m h .record-in
 
-  pub records-after-head : (m : ℕ) → m < n .count → 10 ≤ layerOf n m .start
-  records-after-head zero h = omega (arith, t .first-start)
-  records-after-head (suc m) h = omega (arith, records-apart 0 (suc m) (omega arith) h, t .first-start)
-
   -- the sums of layers do not overlap, and end within the store
   pub sums-apart :
       (m k : ℕ) →

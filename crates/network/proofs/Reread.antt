@@ -9,7 +9,7 @@ use lib.Seq.{getD-set-same, getD-set-other, set-set, set-comm, map-set-same}
 use Rattle.fields.specs.Bytes.{byteAt}
 use Rattle.fields.specs.Faults.{first, cutFault}
 use Rattle.records.specs.Mark.{isMark, markAt}
-use Rattle.records.specs.Reader.{kindAt, readAs}
+use Rattle.records.specs.Reader.{kindAt}
 use Rattle.records.specs.Layer.{sumsOf, otherOf, recordLen}
 use Rattle.records.specs.declared.layer.Kind.{Kind}
 use Rattle.records.specs.declared.layer.Layer.{Layer}

@@ -9,7 +9,7 @@ use Rattle.fields.specs.Faults.{unless, firstFault, spareFault, cutFault}
 use Rattle.fields.specs.Shape.{sizeFault, sameShape}
 use Rattle.fields.specs.Stored.{biasFaults, storedFault}
 use Rattle.fields.specs.declared.shape.Shape.{Shape}
-use Rattle.records.specs.Mark.{markAt, fixedLen}
+use Rattle.records.specs.Mark.{fixedLen}
 use Rattle.records.specs.Frame.{fits}
 use Rattle.records.specs.Conv.{convAt, convFields}
 use Rattle.records.specs.Full.{fullAt, fullFields}

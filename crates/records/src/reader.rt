@@ -5,7 +5,7 @@ ghost use lib.ListN.{length};
 ghost use Rattle.fields.specs.Shape.{GoodShape, SmallShape};
 ghost use Rattle.records.specs.Mark.{fixedLen};
 ghost use Rattle.records.specs.Layer.{KindOk, outputShape};
-ghost use Rattle.records.specs.Reader.{blankConv, kindAt, ownFault, suitFault, layerWith, answer, readAs, recordFault};
+ghost use Rattle.records.specs.Reader.{blankConv, kindAt, ownFault, suitFault, answer, readAs, recordFault};
 use crate::add::add_at;
 use crate::add::add_fields;
 use crate::conv::Conv;

@@ -5,7 +5,7 @@ ghost use lib.ListN.{length};
 ghost use Rattle.network.specs.Network.{tensorOf};
 ghost use Rattle.fields.specs.Shape.{rowBytes};
 ghost use Rattle.bands.specs.State.{bandOf};
-ghost use Rattle.bands.specs.Grow.{growOne, grown};
+ghost use Rattle.bands.specs.Grow.{growOne};
 ghost use Rattle.checks.specs.Tensors.{linkOf};
 ghost use Rattle.runs.specs.Run.{CanRun, Fair, redone, bytesIn, updatedTo, countTo};
 use bands::reach::grow_one;

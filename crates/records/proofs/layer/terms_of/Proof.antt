@@ -1,6 +1,6 @@
 -- `records::layer::terms_of` meets its contract.
 -- Assumes nothing.
-use Prim.Native.Nat.{_*_, _≤_}
+use Prim.Native.Nat.{_*_}
 use native.Mathlib.Omega.{arith}
 use Rattle.fields.proofs.Shapes.{mul-most}
 use borrow.Author.Needs.{needs}

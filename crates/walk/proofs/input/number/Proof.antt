@@ -1,7 +1,6 @@
 -- `walk::input::number` is safe and ends: the loop reads the bytes of the argument.
 -- Assumes nothing.
 use Prim.Native.Nat.{_≤_, _-_}
-use native.Mathlib.Omega.{arith}
 use lib.ListN.{length}
 use borrow.Author.Needs.{needs}
 use Rattle.walk.proofs.input.number.Statement.{statement}

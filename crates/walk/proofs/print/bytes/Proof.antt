@@ -1,7 +1,6 @@
 -- `walk::print::bytes` is safe and ends: the loop goes through the bytes once.
 -- Assumes nothing.
 use Prim.Native.Nat.{_≤_, _-_}
-use native.Mathlib.Omega.{arith}
 use lib.ListN.{length}
 use borrow.Author.Needs.{needs}
 use Rattle.walk.proofs.print.bytes.Statement.{statement}
