@@ -6,19 +6,18 @@ use mathlib.Core.List.{List, [], _∷_}
 use lib.ListN.{length}
 use Rattle.fields.specs.Faults.{firstFault}
 use Rattle.records.specs.declared.layer.Layer.{Layer}
-use Rattle.network.specs.Network.{layerOf, tensorOf, placeOf}
+use Rattle.network.specs.Network.{layerOf}
 use Rattle.network.specs.Decode.{decodeOf}
 use Rattle.network.specs.Replace.{replaceFault}
 use Rattle.network.specs.declared.net.Network.{Network}
 use Rattle.windows.specs.Lists.{pasted}
 use Rattle.fields.specs.Shape.{rowBytes}
-use Rattle.layers.specs.Row.{tensorAt}
 use Rattle.layers.specs.Sums.{layerSums}
 use Rattle.bands.specs.State.{allStale, allEmpty, loaded, changed, replaced}
 use Rattle.bands.specs.declared.state.State.{State}
 use Rattle.checks.specs.Tensors.{tensorsOf}
 use Rattle.checks.specs.Tests.{loadFault, callFault, rowsFault, layerFault, sliceFault, staleFault}
-use Rattle.runs.specs.Run.{networkSums, updatedTo, countTo}
+use Rattle.runs.specs.Run.{networkSums, tensorIn, updatedTo, countTo}
 use Rattle.clew.specs.declared.outcome.Outcome.{Outcome}
 
 abbrev pub outcome : ℕ → ℕ → State → Outcome
@@ -64,7 +63,7 @@ updateOf file sums area s = updateBy (callFault file sums (length area) s) (deco
 
 -- read: copies the last tensor to a slice lent for it
 abbrev pub readBy : ℕ → Network → List ℕ → State → List ℕ → Outcome × List ℕ
-readBy zero n area s out = (outcome 0 0 s, tensorAt area (placeOf n (n .count)) (tensorOf n (n .count)))
+readBy zero n area s out = (outcome 0 0 s, tensorIn n area (n .count))
 readBy (suc fault) n area s out = (outcome (suc fault) 0 s, out)
 
 unfoldable pub readOf : List ℕ → List ℕ → List ℕ → State → List ℕ → Outcome × List ℕ
