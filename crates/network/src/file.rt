@@ -64,9 +64,12 @@ fn read_layer(s: &[u8], at: usize, n: Network, made: usize) -> Read
         return Read::Refused(own);
     }
     let kind = kind_at(mark, s, at);
-    let other = tensor(n, smaller(other_of(kind, made), made));
+    let input = tensor(n, made);
+    let j = smaller(other_of(kind, made), made);
+    // A network is copied for a look, so the tensor that is at hand is not looked up again.
+    let other = if j == made { input } else { tensor(n, j) };
     let b = Before {
-        input: tensor(n, made),
+        input,
         made,
         area: n.area,
         store: n.store,

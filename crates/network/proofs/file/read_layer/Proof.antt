@@ -2,6 +2,7 @@
 -- Assumes nothing.
 use Prim.Native.Nat.{_+_, _≤_}
 use mathlib.Core.Path.{_≡_, sym, _∙_, ap}
+use mathlib.Core.Logic.{⊎-elim}
 use denote.Ref.{now}
 use lib.ListN.{length}
 use Rattle.fields.specs.Faults.{cutFault}
@@ -10,6 +11,7 @@ use Rattle.records.specs.Mark.{markAt, fixedLen}
 use Rattle.records.specs.Reader.{ownFault, readAs}
 use Rattle.records.specs.declared.mark.Mark.{Mark}
 use Rattle.records.proofs.Answers.{stop, pass}
+use Rattle.network.specs.Network.{tensorOf}
 use Rattle.network.specs.Decode.{readLayer}
 use borrow.Author.Needs.{needs}
 use Rattle.network.proofs.file.read_layer.Statement.{statement}
@@ -24,6 +26,11 @@ there : (c : tie.Else1) → c .before .before .before .before .before .args .at 
 there c =
     cut-there _ _ _ (c .before .before .before .before .before .pre .0 .0)
     (sym (c .before .cut-fault .ensures ∙ ap (cutFault (now (c .before .before .before .before .before .args .s)) (c .before .before .before .before .before .args .at)) (c .before .before .fixed-len .ensures)) ∙ c .if1 .left)
+
+-- the other tensor, looked up or at hand
+other-is : (c : tie.Joined3) → c .if3 .other ≡ tensorOf (c .before .before .before .before .before .before .before .before .before .before .before .before .args .n) (c .before .smaller .result)
+other-is c =
+    ⊎-elim (λ w. w .1 ∙ c .before .before .before .tensor .ensures ∙ ap (tensorOf (c .before .before .before .before .before .before .before .before .before .before .before .before .args .n)) (sym (w .0 .taken))) (λ w. w .2 ∙ w .1 .ensures) (c .if3 .came)
 
 mark-at-requires : tie.Need-mark-at-requires
 mark-at-requires c κs = search needs
@@ -50,14 +57,14 @@ returns-2 c =
 kind-at-requires : tie.Need-kind-at-requires
 kind-at-requires c κs = there (c .before .before)
 
+tensor-requires : tie.Need-tensor-requires
+tensor-requires c κs = search needs
+
 other-of-requires : tie.Need-other-of-requires
 other-of-requires c κs = search needs
 
 smaller-requires : tie.Need-smaller-requires
 smaller-requires c κs = search needs
-
-tensor-requires : tie.Need-tensor-requires
-tensor-requires c κs = search needs
 
 tensor-requires-2 : tie.Need-tensor-requires-2
 tensor-requires-2 c κs = search needs
@@ -67,7 +74,7 @@ fit-record-requires c κs = (
   (there (c .before .before .before .before .before .before .before), c .before .before .before .before .before .before .before .before .before .before .before .before .pre .0 .1),
   (
     (sym (c .before .before .before .before .before .before .own-fault .ensures) ∙ c .before .before .before .before .before .if2 .left, c .before .before .before .before .kind-at .ensures),
-    (rw (c .tensor2 .ensures) (c .before .before .before .before .before .before .before .before .before .before .before .before .pre .1 .1), c .before .before .before .before .before .before .before .before .before .before .before .before .pre .1 .0 .1),
+    (rw (c .before .before .before .tensor .ensures) (c .before .before .before .before .before .before .before .before .before .before .before .before .pre .1 .1), c .before .before .before .before .before .before .before .before .before .before .before .before .pre .1 .0 .1),
   ),
 )
 
@@ -75,10 +82,10 @@ returns-3 : tie.Need-returns-3
 unfolding readLayer
 returns-3 c =
     simp (
-      c .before .before .tensor .ensures,
-      c .before .tensor2 .ensures,
-      c .before .before .before .smaller .ensures,
-      c .before .before .before .before .other-of .ensures,
+      other-is (c .before),
+      c .before .before .before .before .tensor .ensures,
+      c .before .before .smaller .ensures,
+      c .before .before .before .other-of .ensures,
       c .before .before .before .before .before .kind-at .ensures,
       c .before .before .before .before .before .before .before .before .before .before .before .mark-at .ensures,
     ) at (c .fit-record .ensures)
@@ -94,9 +101,9 @@ read-layer-spec =
     own-fault-requires
     returns-2
     kind-at-requires
+    tensor-requires
     other-of-requires
     smaller-requires
-    tensor-requires
     tensor-requires-2
     fit-record-requires
     returns-3)
