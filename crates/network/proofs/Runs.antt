@@ -186,11 +186,10 @@ pub start-started :
 unfolding startOf
 start-started s f e h = ap (λ (k : ℕ). started k (pictureAt s) (byteAt s 7) (byteAt s 8)) (sym h ∙ e)
 
-pub fine-next : (s : List ℕ) (left : ℕ) (p : Progress) → length s ≤ 65536 → 0 < left → Fine s left p → CanStep s p
-fine-next s left p short h f e =
+pub fine-next : (s : List ℕ) (left : ℕ) (p : Progress) → 0 < left → Fine s left p → CanStep s p
+fine-next s left p h f e =
     let r = f e in
     record {
-      file-few = short;
       at-in = r .sofar .at-in;
       made-few = omega arith;
       area-few = r .sofar .area-few;

@@ -105,7 +105,6 @@ decodeOf s = cond (leb (length s) 65536) (ranOf s (startOf s)) (decodedAs 3 (sto
 
 -- what the next record's reader needs of a file read so far
 pub record Next (s : List ℕ) (p : Progress) : Type 0 where
-  pub file-few : length s ≤ 65536
   pub at-in : p .at ≤ length s
   pub made-few : p .made < 16
   pub area-few : p .network .area ≤ 65536

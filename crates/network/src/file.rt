@@ -49,7 +49,7 @@ fn smaller(a: usize, b: usize) -> usize
 
 // The record of layer made + 1, which reads tensor made.
 fn read_layer(s: &[u8], at: usize, n: Network, made: usize) -> Read
-    requires { ⌜ (at ≤ length (now s)) × (length (now s) ≤ 65536) ⌝ }
+    requires { ⌜ at ≤ length (now s) ⌝ }
     requires { ⌜ (made < 16) × (n .area ≤ 65536) ⌝ }
     requires { ⌜ GoodShape (tensorOf n made) ⌝ }
     ensures { λ r. ⌜ r ≡ readLayer (now (s .entry)) at n made ⌝ }

@@ -57,18 +57,25 @@ pub fn other_of(kind: Kind, m: usize) -> usize
     }
 }
 
-// N: the terms of each output of a layer.
-pub fn terms_of(y: Layer) -> usize
-    requires { ⌜ GoodShape (y .input) ⌝ }
-    ensures { λ r. ⌜ (r ≡ termsOf (y .kind) (y .input)) × (r ≤ 16777216) ⌝ }
+// N: the terms of each output of a layer with that input.
+pub fn terms_by(kind: Kind, input: Shape) -> usize
+    requires { ⌜ GoodShape input ⌝ }
+    ensures { λ r. ⌜ (r ≡ termsOf kind input) × (r ≤ 16777216) ⌝ }
 {
-    let input = y.input;
-    let kind = y.kind;
     match kind {
         Kind::Convolution(c) => (c.frame.height as usize * c.frame.width as usize) * input.channels,
         Kind::Fully(_) => bytes_of(input),
         Kind::Addition(_) => 0,
     }
+}
+
+pub fn terms_of(y: Layer) -> usize
+    requires { ⌜ GoodShape (y .input) ⌝ }
+    ensures { λ r. ⌜ (r ≡ termsOf (y .kind) (y .input)) × (r ≤ 16777216) ⌝ }
+{
+    let kind = y.kind;
+    let input = y.input;
+    terms_by(kind, input)
 }
 
 // Where a layer's biases begin in the file.

@@ -20,10 +20,8 @@ use crate::full::full_output;
 use crate::layer::Kind;
 use crate::layer::Layer;
 use crate::layer::Scale;
-use crate::layer::biases_at;
-use crate::layer::record_len;
 use crate::layer::sums_of;
-use crate::layer::terms_of;
+use crate::layer::terms_by;
 use crate::mark::Mark;
 use crate::mark::fixed_len;
 use fields::faults::first_of;
@@ -33,6 +31,7 @@ use fields::shape::same_shape;
 use fields::shape::size_fault;
 use fields::stored::bias_faults;
 use fields::stored::stored_fault;
+use fields::stored::stored_len;
 
 // What stands before a record: the tensor that its layer reads, and how many layers, bytes of tensors and stored sums
 // there are so far.
@@ -150,7 +149,7 @@ fn output_shape(kind: Kind, b: Before, other: Shape) -> Shape
 
 // The record of a layer whose own fields are in their ranges: its shape, and what is stored.
 pub fn fit_record(m: Mark, kind: Kind, s: &[u8], at: usize, b: Before, other: Shape) -> Read
-    requires { ⌜ (at + fixedLen m ≤ length (now s)) × (length (now s) ≤ 65536) ⌝ }
+    requires { ⌜ at + fixedLen m ≤ length (now s) ⌝ }
     requires { ⌜ (ownFault m (now s) at ≡ 0) × (kind ≡ kindAt m (now s) at) ⌝ }
     requires { ⌜ GoodShape (b .input) × (b .area ≤ 65536) ⌝ }
     ensures { λ r. ⌜ r ≡ readAs m kind (now (s .entry)) at b other ⌝ }
@@ -162,6 +161,10 @@ pub fn fit_record(m: Mark, kind: Kind, s: &[u8], at: usize, b: Before, other: Sh
     let input = b.input;
     let output = output_shape(kind, b, other);
     let size = size_fault(output, b.area);
+    let fixed = fixed_len(m);
+    let n = sums_of(kind);
+    let w = terms_by(kind, input);
+    let stored = stored_fault(s, at + fixed, n, w);
     let y = Layer {
         mark: m,
         input,
@@ -171,8 +174,7 @@ pub fn fit_record(m: Mark, kind: Kind, s: &[u8], at: usize, b: Before, other: Sh
         place: b.area,
         sums: b.store,
     };
-    let stored = stored_fault(s, biases_at(y), sums_of(kind), terms_of(y));
-    answer_of(first_of(size, stored), y, at + record_len(y))
+    answer_of(first_of(size, stored), y, at + (fixed + stored_len(n, w)))
 }
 
 // A field, bias or spare of a record with so many biases out of range.

@@ -31,7 +31,7 @@ loop-holds : tie.Need-loop-holds Inv-loop μ-loop
 loop-holds c = (refl, loop-starts _ _ (c .before .start .ensures))
 
 step-requires : tie.Need-step-requires Inv-loop μ-loop
-step-requires c κs = fine-next _ _ _ (omega arith) (omega arith) (c .before .loop .inv .1)
+step-requires c κs = fine-next _ _ _ (omega arith) (c .before .loop .inv .1)
 
 sub-left : tie.Need-sub-left Inv-loop μ-loop
 sub-left c = omega arith

@@ -24,7 +24,7 @@ cut-is c = c .cut-fault .ensures ∙ ap (cutFault (now (c .before .before .befor
 -- the fixed part is there
 there : (c : tie.Else1) → c .before .before .before .before .before .args .at + fixedLen (c .before .before .before .mark-at .result) ≤ length (now (c .before .before .before .before .before .args .s))
 there c =
-    cut-there _ _ _ (c .before .before .before .before .before .pre .0 .0)
+    cut-there _ _ _ (c .before .before .before .before .before .pre .0)
     (sym (c .before .cut-fault .ensures ∙ ap (cutFault (now (c .before .before .before .before .before .args .s)) (c .before .before .before .before .before .args .at)) (c .before .before .fixed-len .ensures)) ∙ c .if1 .left)
 
 -- the other tensor, looked up or at hand
@@ -71,7 +71,7 @@ tensor-requires-2 c κs = search needs
 
 fit-record-requires : tie.Need-fit-record-requires
 fit-record-requires c κs = (
-  (there (c .before .before .before .before .before .before .before), c .before .before .before .before .before .before .before .before .before .before .before .before .pre .0 .1),
+  there (c .before .before .before .before .before .before .before),
   (
     (sym (c .before .before .before .before .before .before .own-fault .ensures) ∙ c .before .before .before .before .before .if2 .left, c .before .before .before .before .kind-at .ensures),
     (rw (c .before .before .before .tensor .ensures) (c .before .before .before .before .before .before .before .before .before .before .before .before .pre .1 .1), c .before .before .before .before .before .before .before .before .before .before .before .before .pre .1 .0 .1),

@@ -15,7 +15,7 @@ suit-fault-requires c κs = search needs
 returns : tie.Need-returns
 unfolding readAs
 returns c =
-    pass _ _ _ _ _ _ refl (there-cut _ _ _ (c .before .before .before .pre .0 .0))
+    pass _ _ _ _ _ _ refl (there-cut _ _ _ (c .before .before .before .pre .0))
     (pass _ _ _ _ _ _ refl (c .before .before .before .pre .1 .0 .0)
     (stop _ _ _ _ _ (c .before .suit-fault .ensures) (c .if1 .taken)))
 
@@ -25,14 +25,17 @@ output-shape-requires c κs = (rw (c .before .before .before .before .pre .1 .0 
 size-fault-requires : tie.Need-size-fault-requires
 size-fault-requires c κs = search needs
 
-biases-at-requires : tie.Need-biases-at-requires
-biases-at-requires c κs = search needs
+fixed-len-requires : tie.Need-fixed-len-requires
+fixed-len-requires c κs = search needs
 
 sums-of-requires : tie.Need-sums-of-requires
 sums-of-requires c κs = search needs
 
-terms-of-requires : tie.Need-terms-of-requires
-terms-of-requires c κs = search needs
+terms-by-requires : tie.Need-terms-by-requires
+terms-by-requires c κs = search needs
+
+add-stored-fault : tie.Need-add-stored-fault
+add-stored-fault c = search needs
 
 stored-fault-requires : tie.Need-stored-fault-requires
 stored-fault-requires c κs = search needs
@@ -40,11 +43,14 @@ stored-fault-requires c κs = search needs
 first-of-requires : tie.Need-first-of-requires
 first-of-requires c κs = search needs
 
-record-len-requires : tie.Need-record-len-requires
-record-len-requires c κs = search needs
+stored-len-requires : tie.Need-stored-len-requires
+stored-len-requires c κs = search needs
 
 add-answer-of : tie.Need-add-answer-of
 add-answer-of c = search needs
+
+add-answer-of-2 : tie.Need-add-answer-of-2
+add-answer-of-2 c = search needs
 
 answer-of-requires : tie.Need-answer-of-requires
 answer-of-requires c κs = search needs
@@ -52,17 +58,17 @@ answer-of-requires c κs = search needs
 returns-2 : tie.Need-returns-2
 unfolding readAs
 returns-2 c =
-    pass _ _ _ _ _ _ refl (there-cut _ _ _ (c .before .before .before .before .before .before .before .before .before .before .before .before .before .pre .0 .0))
+    pass _ _ _ _ _ _ refl (there-cut _ _ _ (c .before .before .before .before .before .before .before .before .before .before .before .before .before .pre .0))
     (pass _ _ _ _ _ _ refl (c .before .before .before .before .before .before .before .before .before .before .before .before .before .pre .1 .0 .0)
     (pass _ _ _ _ _ _ (c .before .before .before .before .before .before .before .before .before .before .before .suit-fault .ensures) (c .before .before .before .before .before .before .before .before .before .before .if1 .left)
     (simp (
       c .before .before .first-of .ensures,
       c .before .before .before .before .before .before .before .size-fault .ensures,
       c .before .before .before .stored-fault .ensures,
-      c .before .before .before .before .before .before .biases-at .ensures .0,
+      c .before .before .before .before .before .before .fixed-len .ensures,
       c .before .before .before .before .before .sums-of .ensures .0,
-      c .before .before .before .before .terms-of .ensures .0,
-      c .before .record-len .ensures .0,
+      c .before .before .before .before .terms-by .ensures .0,
+      c .before .stored-len .ensures .0,
       c .before .before .before .before .before .before .before .before .output-shape .ensures .0,
     ) at (c .answer-of .ensures))))
 
@@ -74,12 +80,14 @@ fit-record-spec =
     returns
     output-shape-requires
     size-fault-requires
-    biases-at-requires
+    fixed-len-requires
     sums-of-requires
-    terms-of-requires
+    terms-by-requires
+    add-stored-fault
     stored-fault-requires
     first-of-requires
-    record-len-requires
+    stored-len-requires
     add-answer-of
+    add-answer-of-2
     answer-of-requires
     returns-2)
