@@ -33,7 +33,7 @@ FreshTensors = (s : System) → Reached s → callFault (s .file) (s .sums) (len
 abbrev pub FreshReadings : Type 0
 FreshReadings = (s : System) (out : List ℕ) → Reached s → readFrom s out .0 .number ≡ 0 → readFrom s out .1 ≡ freshReading (s .file) (pictureOf s)
 
--- and nobody can tell two systems apart that hold the same network and picture
+-- and by their accepted readings nobody can tell two systems apart that hold the same network and picture
 abbrev pub SameReadings : Type 0
 SameReadings = (s s′ : System) (out out′ : List ℕ) → Reached s → Reached s′ → s .file ≡ s′ .file → pictureOf s ≡ pictureOf s′
     → readFrom s out .0 .number ≡ 0 → readFrom s′ out′ .0 .number ≡ 0 → readFrom s out .1 ≡ readFrom s′ out′ .1

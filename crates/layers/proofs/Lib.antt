@@ -1,4 +1,4 @@
--- Laws that belong to no one function, and the examples.
+-- Laws that belong to no one function.
 pub mod Convs
 pub mod Direct
 pub mod Laid

@@ -24,15 +24,16 @@ pub enum Kind {
     Addition(Add),
 }
 
-// Its record begins in the file at `start`, its output tensor in the area at `place`, its sums in the store at `sums`.
+// Its record begins in the file at `start`, its output tensor in the area at `place`, its sums in the store at `sums`. The
+// mark stands last, where it costs a network's copies least.
 pub struct Layer {
-    pub mark: Mark,
     pub input: Shape,
     pub output: Shape,
     pub kind: Kind,
     pub start: usize,
     pub place: usize,
     pub sums: usize,
+    pub mark: Mark,
 }
 
 // How many stored sums a layer has: one for each filter or output.
