@@ -20,11 +20,15 @@ frameFields f = firstFault (
 unfoldable pub fits : Frame → Shape → Bool
 fits f i = leb (f .height) (i .rows + 2 * f .padding) && leb (f .width) (i .columns + 2 * f .padding)
 
--- floor((rows + 2p − kernel rows) / stride) + 1 output rows, columns likewise, and so many channels
+-- a side of the output: floor((side + padding − kernel) / stride) + 1, with the padding of both ends
+abbrev pub outputSide : ℕ → ℕ → ℕ → ℕ → ℕ
+outputSide side padding kernel stride = (side + padding - kernel) / stride + 1
+
+-- that many output rows, columns likewise, and so many channels
 unfoldable pub frameOutput : Frame → Shape → ℕ → Shape
 frameOutput f i channels = record {
-  rows = (i .rows + 2 * f .padding - f .height) / f .stride + 1;
-  columns = (i .columns + 2 * f .padding - f .width) / f .stride + 1;
+  rows = outputSide (i .rows) (2 * f .padding) (f .height) (f .stride);
+  columns = outputSide (i .columns) (2 * f .padding) (f .width) (f .stride);
   channels = channels;
 }
 
