@@ -116,30 +116,29 @@ module _ (y : Layer) (c : Conv) {file sums : List ℕ} (r : ConvReady y c file s
 
     -- what the function `conv_place` requires at place j of row i
     pub place-ready :
-        (z i j from : ℕ) {w : Window} {o : Outputs} {at p q size patch : ℕ} →
+        (z i j from at : ℕ) {w : Window} {o : Outputs} {p q size patch : ℕ} →
         w ≡ windowFor (y .input) (c .frame) z →
         o ≡ convOutputs y c z →
         i < y .output .rows →
         j < y .output .columns →
         p ≡ i * c .frame .stride →
         q ≡ j * c .frame .stride →
-        Apart from (bytesOf (y .input)) at (o .count) →
         from + bytesOf (y .input) ≤ size →
         at + o .count ≤ size →
         12544 ≤ patch →
         Sound w ×
         (OutputsReady o (termsOf w) file sums ×
-        ((Apart from (sizeOf w) at (o .count) × (from + sizeOf w ≤ size) × (at + o .count ≤ size)) ×
+        (((from + sizeOf w ≤ size) × (at + o .count ≤ size)) ×
         ((q ≤ w .columns + w .left) × (p ≤ 131072) × (termsOf w ≤ patch))))
     unfolding bytesOf
-    place-ready z i j from ew eo hi hj ep eq ha hf hr hp =
+    place-ready z i j from at ew eo hi hj ep eq hf hr hp =
         let sound = window-sound z in
         let taps = taps-few (windowFor (y .input) (c .frame) z) sound in
         let terms : termsOf (windowFor (y .input) (c .frame) z) ≤ 12544 = mul-most (c .frame .height * c .frame .width) (y .input .channels) 49 256 taps (g .channels-few) in (
           rw ew sound,
           (
             rw (eo, ew) (ready-any (convOutputs y c 0) z _ (r .outputs)),
-            ((rw ew ha, rw ew hf, hr), (rw (ew, eq) (column-at j hj), rw ep (row-at i hi), rw ew (omega arith))),
+            ((rw ew hf, hr), (rw (ew, eq) (column-at j hj), rw ep (row-at i hi), rw ew (omega arith))),
           ),
         )
 

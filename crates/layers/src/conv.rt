@@ -3,7 +3,7 @@ ghost use mathlib.Core.Path.{_≡_};
 ghost use Prim.Native.Nat.{_+_, _*_, _≤_, _<_};
 ghost use lib.ListN.{length};
 ghost use Rattle.fields.specs.Shape.{rowBytes};
-ghost use Rattle.windows.specs.Lists.{pasted, part, Apart};
+ghost use Rattle.windows.specs.Lists.{pasted, part};
 ghost use Rattle.windows.specs.Window.{Sound, sizeOf, termsOf, windowOf};
 ghost use Rattle.layers.specs.Outputs.{OutputsReady, outputsOf};
 ghost use Rattle.layers.specs.Conv.{windowFor, convOutputs, convRow};
@@ -71,7 +71,7 @@ fn conv_place(
 )
     requires { ⌜ Sound w ⌝ }
     requires { ⌜ OutputsReady o (termsOf w) (now file) (now sums) ⌝ }
-    requires { ⌜ (Apart from (sizeOf w) at (o .count)) × (from + sizeOf w ≤ length (now area)) × (at + o .count ≤ length (now area)) ⌝ }
+    requires { ⌜ (from + sizeOf w ≤ length (now area)) × (at + o .count ≤ length (now area)) ⌝ }
     requires { ⌜ (q ≤ w .columns + w .left) × (p ≤ 131072) × (termsOf w ≤ length (now patch)) ⌝ }
     ensures { λ _. ⌜ now (area .exit) ≡ pasted (now (area .entry)) at (outputsOf o (now (file .entry)) (now (sums .entry)) (windowOf w (part (now (area .entry)) from (sizeOf w)) p q)) ⌝ }
 {

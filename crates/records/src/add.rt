@@ -2,7 +2,9 @@
 ghost use mathlib.Core.Path.{_≡_};
 ghost use Prim.Native.Nat.{_+_, _≤_};
 ghost use lib.ListN.{length};
+ghost use Rattle.records.specs.Mark.{fixedLen};
 ghost use Rattle.records.specs.Add.{addAt, addFields};
+ghost use Rattle.records.specs.declared.mark.Mark.the-variants.{AD};
 use crate::layer::Scale;
 use fields::bytes::u32_at;
 use fields::faults::clamp_fault;
@@ -22,7 +24,7 @@ pub struct Add {
 }
 
 pub fn add_at(s: &[u8], at: usize) -> Add
-    requires { ⌜ at + 22 ≤ length (now s) ⌝ }
+    requires { ⌜ at + fixedLen AD ≤ length (now s) ⌝ }
     ensures { λ r. ⌜ r ≡ addAt (now (s .entry)) at ⌝ }
 {
     let first = u32_at(s, at + 6);

@@ -2,7 +2,9 @@
 ghost use mathlib.Core.Path.{_≡_};
 ghost use Prim.Native.Nat.{_+_, _≤_};
 ghost use lib.ListN.{length};
+ghost use Rattle.records.specs.Mark.{fixedLen};
 ghost use Rattle.records.specs.Conv.{convAt, convFields};
+ghost use Rattle.records.specs.declared.mark.Mark.the-variants.{CV};
 use crate::frame::Frame;
 use crate::frame::frame_fields;
 use crate::layer::Scale;
@@ -25,7 +27,7 @@ pub struct Conv {
 }
 
 pub fn conv_at(s: &[u8], at: usize) -> Conv
-    requires { ⌜ at + 16 ≤ length (now s) ⌝ }
+    requires { ⌜ at + fixedLen CV ≤ length (now s) ⌝ }
     ensures { λ r. ⌜ r ≡ convAt (now (s .entry)) at ⌝ }
 {
     let multiplier = u32_at(s, at + 12);

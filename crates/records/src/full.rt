@@ -3,7 +3,9 @@ ghost use mathlib.Core.Path.{_≡_};
 ghost use Prim.Native.Nat.{_+_, _≤_};
 ghost use lib.ListN.{length};
 ghost use Rattle.fields.specs.Shape.{SmallShape};
+ghost use Rattle.records.specs.Mark.{fixedLen};
 ghost use Rattle.records.specs.Full.{fullAt, fullFields, fullOutput};
+ghost use Rattle.records.specs.declared.mark.Mark.the-variants.{FU};
 use crate::layer::Scale;
 use fields::bytes::u16_at;
 use fields::bytes::u32_at;
@@ -25,7 +27,7 @@ pub struct Full {
 }
 
 pub fn full_at(s: &[u8], at: usize) -> Full
-    requires { ⌜ at + 14 ≤ length (now s) ⌝ }
+    requires { ⌜ at + fixedLen FU ≤ length (now s) ⌝ }
     ensures { λ r. ⌜ r ≡ fullAt (now (s .entry)) at ⌝ }
 {
     let outputs = u16_at(s, at + 2);

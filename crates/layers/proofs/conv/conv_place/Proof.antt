@@ -80,7 +80,7 @@ slice-aggregate-put-outputs : tie.Need-slice-aggregate-put-outputs
 slice-aggregate-put-outputs c = terms (c .before .before .before .before .before .before .before .before .before) ∙ sym (front-length (c .before .before .before))
 
 put-outputs-requires : tie.Need-put-outputs-requires
-put-outputs-requires c κs = let s = c .before .before .before .before .before .before .before .before .before .before .before .before .before .before .before .before in (rw (front-length (c .before .before .before .before)) (s .pre .1 .0), s .pre .1 .1 .0 .2)
+put-outputs-requires c κs = let s = c .before .before .before .before .before .before .before .before .before .before .before .before .before .before .before .before in (rw (front-length (c .before .before .before .before)) (s .pre .1 .0), s .pre .1 .1 .0 .1)
 
 same-length : tie.Need-same-length
 same-length c = search needs

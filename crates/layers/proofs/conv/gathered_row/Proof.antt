@@ -111,11 +111,9 @@ conv-place-requires c κs =
     let a = s .args in
     let h = s .pre .1 in
     let p = h .0 in
-    let tensor = bytesOf (a .y .input) in
     let here = next l in
-    place-ready (a .y) (a .c) (s .pre .0) (p .input) (a .z) (a .i) (l .before .loop .j) (a .from) (w .ensures) (o .ensures) (h .1 .0) (l .loop-test .taken) (l .before .before .before .before .before .times .ensures .0)
-    (v .1) (apart-within tensor (bytesOf (a .y .output)) tensor (o .result .count) (p .apart) (omega (arith, v .0)) here (omega arith) (omega arith))
-    (omega (arith, p .input-in, v .2 .same)) (omega (arith, p .within, v .2 .same)) (omega (arith, v .3, h .1))
+    place-ready (a .y) (a .c) (s .pre .0) (p .input) (a .z) (a .i) (l .before .loop .j) (a .from) (l .before .loop .at) (w .ensures) (o .ensures) (h .1 .0) (l .loop-test .taken) (l .before .before .before .before .before .times .ensures .0)
+    (v .1) (omega (arith, p .input-in, v .2 .same)) (omega (arith, p .within, v .2 .same)) (omega (arith, v .3, h .1))
 
 add-at-2 : tie.Need-add-at-2 Inv-loop μ-loop
 add-at-2 c =
