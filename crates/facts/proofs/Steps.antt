@@ -11,7 +11,7 @@ use Rattle.fields.specs.Faults.{firstFault}
 use Rattle.fields.specs.Shape.{rowBytes}
 use Rattle.fields.specs.declared.shape.Shape.{Shape}
 use Rattle.fields.proofs.Tests.{first-both}
-use Rattle.network.specs.Network.{layerOf, tensorOf}
+use Rattle.network.specs.Network.{layerOf}
 use Rattle.network.specs.Decode.{decodeOf}
 use Rattle.network.specs.Replace.{replaceFault}
 use Rattle.network.specs.Taken.{Taken}
@@ -22,7 +22,6 @@ use Rattle.windows.proofs.Pasted.{pasted-length}
 use Rattle.layers.proofs.Local.{SameRecord, SameSums}
 use Rattle.bands.specs.declared.state.State.{State}
 use Rattle.bands.specs.Band.{none}
-use Rattle.bands.specs.Within.{In}
 use Rattle.bands.specs.State.{bandOf, loaded}
 use Rattle.bands.specs.History.{Laws, grownOf, Kept}
 use Rattle.bands.specs.Area.{place, Laid, runArea}
@@ -35,10 +34,10 @@ use Rattle.checks.specs.Tests.{callFault, rowsFault, layerFault, sliceFault, st
 use Rattle.checks.proofs.Numbers.{rows-at}
 use Rattle.checks.proofs.Links.{chain-rows}
 use Rattle.checks.proofs.Passed.{LoadPassed, CallPassed, call-passed, rows-passed, layer-passed}
-use Rattle.runs.specs.Run.{networkSums, rowIn, rowFrom, grownBandOf}
+use Rattle.runs.specs.Run.{networkSums, grownBandOf}
 use Rattle.runs.proofs.Fills.{network-sums-length}
 use Rattle.clew.specs.Calls.{loadBy, changeOf, changeBy, replaceOf, replaceBy, updateOf, updateBy, readOf, readBy}
-use Rattle.facts.specs.History.{System, networkOf, afterLoad, withArea, withFile, withState, Call, after, Keeps, Reached}
+use Rattle.facts.specs.History.{System, networkOf, afterLoad, withArea, withFile, withState, Call, after, RowsKept, Keeps, Reached}
 use Rattle.facts.specs.History.Call.{change, replace, update, read}
 use Rattle.facts.specs.History.Reached.{begin, then, written}
 use Rattle.facts.proofs.Model.{Alike, Present, netOf, parOf, model, layout}
@@ -67,12 +66,6 @@ passed s = call-passed (s .file) (s .sums) (length (s .area)) (s .state)
 -- the fault of a reading
 abbrev pub readFault : System → List ℕ → ℕ
 readFault s out = firstFault (faultOf s ∷ sliceFault (networkOf s) (length out) ∷ staleFault (s .state) ∷ [])
-
--- each row outside the grown bands is what its layer makes of the rows and sums stored
-abbrev RowsKept : System → Type 0
-RowsKept s =
-    (m i : ℕ) → m < networkOf s .count → i < tensorOf (networkOf s) (suc m) .rows → (In i (grownBandOf (networkOf s) (s .state) (suc m)) → ⊥) →
-    rowIn (networkOf s) (s .area) (suc m) i ≡ rowFrom (networkOf s) (s .file) (s .sums) m (s .area) i
 
 -- layer i has the same parameters where it is decoded the same, from the same record, and has the same sums
 par-same :

@@ -64,17 +64,21 @@ after (replace k r) s = withFile s (replaceOf (s .file) (s .sums) (s .area) (s .
 after update s = withArea s (updateOf (s .file) (s .sums) (s .area) (s .state))
 after (read out) s = withState s (readFrom s out)
 
+-- each row outside the grown bands is what its layer makes of the rows and sums stored
+abbrev pub RowsKept : System → Type 0
+RowsKept s = (m i : ℕ) → m < networkOf s .count → i < tensorOf (networkOf s) (suc m) .rows
+    → (In i (grownBandOf (networkOf s) (s .state) (suc m)) → ⊥)
+    → rowIn (networkOf s) (s .area) (suc m) i ≡ rowFrom (networkOf s) (s .file) (s .sums) m (s .area) i
+
 -- what a history may begin from: the file is taken, the store and the area hold what it needs, there are 17 bands, the sums are the true ones,
--- and each row outside the grown bands is what its layer makes of the rows and sums stored
+-- and the rows are kept
 pub record Keeps (s : System) : Type 0 where
   pub taken : decodeOf (s .file) .refusal ≡ 0
   pub store-in : networkOf s .store ≤ length (s .sums)
   pub area-in : networkOf s .area ≤ length (s .area)
   pub bands : length (s .state .bands) ≡ 17
   pub sums : part (s .sums) 0 (networkOf s .store) ≡ networkSums (networkOf s) (s .file)
-  pub rows : (m i : ℕ) → m < networkOf s .count → i < tensorOf (networkOf s) (suc m) .rows
-      → (In i (grownBandOf (networkOf s) (s .state) (suc m)) → ⊥)
-      → rowIn (networkOf s) (s .area) (suc m) i ≡ rowFrom (networkOf s) (s .file) (s .sums) m (s .area) i
+  pub rows : RowsKept s
 
 -- what such a system, an accepted load's for one, and any calls after it lead to
 pub data Reached : System → Type 0 where
