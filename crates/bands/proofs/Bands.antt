@@ -9,8 +9,8 @@ use native.Mathlib.Decide.{ℕ-discrete, decLe, decLt}
 use lib.Dec.{ltb, leb}
 use borrow.Author.Tests.{leb-true, leb-false, ltb-true, lt-ltb, le-ltb, le-leb, lt-leb}
 use Rattle.bands.specs.declared.band.Band.{Band}
-use Rattle.bands.specs.Band.{band, none, inBand, isEmpty, cover, span}
-use Rattle.bands.specs.Within.{In, Inside, Empty}
+use Rattle.bands.specs.Band.{band, none, inBand, isEmpty, cover, span, In}
+use Rattle.bands.specs.Within.{Inside, Empty}
 
 -- ---- the rows of a band
 

@@ -11,11 +11,10 @@ use lib.Dec.{ltb, leb}
 use borrow.Author.Tests.{leb-true, ltb-true, ltb-false, le-leb, lt-ltb, le-ltb}
 use Rattle.bands.specs.declared.band.Band.{Band}
 use Rattle.bands.specs.declared.reach.Link.{Link}
-use Rattle.bands.specs.Band.{band, none, inBand}
-use Rattle.bands.specs.Within.{In, Inside, Empty}
-use Rattle.bands.specs.Reach.{held, isReached, reachedBand}
-use Rattle.bands.specs.Windows.{Window, Hit}
-use Rattle.bands.proofs.Choice.{some-at, at-some}
+use Rattle.bands.specs.Band.{band, none, inBand, In}
+use Rattle.bands.specs.Within.{Inside, Empty, Sees, Hit}
+use Rattle.bands.specs.Reach.{inBandAt, isReached, reachedBand}
+use Rattle.lists.proofs.Choice.{some-at, at-some}
 use Rattle.bands.proofs.Bands.{Canon, canon-once, in-empty, in-test, test-in, span-in, span-least, span-canon, span-below}
 
 -- ---- the rule
@@ -25,7 +24,7 @@ module _ (b : Band) (y : Link) where
   pub test-hit : (i : ℕ) → isReached b y i ≡ true → Hit b y i
   unfolding isReached
   test-hit i h =
-      let w = some-at (λ a. held b (y .before) (i * y .stride + a)) (y .kernel) h in
+      let w = some-at (λ a. inBandAt b (y .before) (i * y .stride + a)) (y .kernel) h in
       let p : ℕ = i * y .stride + w .0 in
       let v = and-eq-true-iff (leb (y .before) p) (inBand b (p - y .before)) .0 (w .2) in
       let u : y .before ≤ p = leb-true _ _ (v .0) in
@@ -33,7 +32,7 @@ module _ (b : Band) (y : Link) where
 
   pub hit-test : (i : ℕ) → Hit b y i → isReached b y i ≡ true
   unfolding isReached
-  hit-test i (r, w, x) = at-some (λ a. held b (y .before) (i * y .stride + a)) (y .kernel) (r + y .before - i * y .stride) (omega arith) here
+  hit-test i (r, w, x) = at-some (λ a. inBandAt b (y .before) (i * y .stride + a)) (y .kernel) (r + y .before - i * y .stride) (omega arith) here
     where
       e : i * y .stride + (r + y .before - i * y .stride) ≡ r + y .before
       e = omega arith
@@ -41,7 +40,7 @@ module _ (b : Band) (y : Link) where
       f : r + y .before - y .before ≡ r
       f = omega arith
 
-      here : held b (y .before) (i * y .stride + (r + y .before - i * y .stride)) ≡ true
+      here : inBandAt b (y .before) (i * y .stride + (r + y .before - i * y .stride)) ≡ true
       here = rw (e, f, le-leb (y .before) (r + y .before) (omega arith)) (in-test r b w)
 
   -- every row that the band reaches is in the reached band
@@ -171,7 +170,7 @@ module _ (b : Band) (y : Link) (hk : 0 < y .kernel) (hs : 0 < y .stride) where
 -- ---- every window holds a real row
 
 -- of an input of that many rows, where the padding above it is below the kernel's rows and no window starts past its last row
-pub window-real : (y : Link) (rows i : ℕ) → y .before < y .kernel → 0 < rows → i * y .stride < rows + y .before → (r : ℕ) × Window y i r × (r < rows)
+pub window-real : (y : Link) (rows i : ℕ) → y .before < y .kernel → 0 < rows → i * y .stride < rows + y .before → (r : ℕ) × Sees y i r × (r < rows)
 window-real y rows i hp hr hi = (i * y .stride - y .before, omega arith, omega arith)
 
 -- as none does: the number of a layer's rows is the floor division of the padded side less the kernel, plus one

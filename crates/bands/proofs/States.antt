@@ -13,35 +13,35 @@ use borrow.Author.Tests.{leb-true, ltb-true, eqb-true, le-leb, lt-leb, lt-ltb}
 use Rattle.bands.specs.declared.band.Band.{Band}
 use Rattle.bands.specs.declared.state.State.{State}
 use Rattle.bands.specs.declared.state.Tensors.{Tensors}
-use Rattle.bands.specs.Choice.{every}
+use Rattle.lists.specs.Choice.{every}
 use Rattle.bands.specs.Band.{band, none, isEmpty, cover}
 use Rattle.bands.specs.State.{bandOf, rowsOf, withBand, allStale, allEmpty, fair, absent, fairAt, stateFault, clean, loaded, changed, replaced}
-use Rattle.bands.proofs.Choice.{every-at, every-all, every-not}
-use Rattle.bands.proofs.Table.{table-at}
+use Rattle.lists.proofs.Choice.{every-at, every-all, every-not}
+use Rattle.lists.proofs.Laid.{joined-at}
 use Rattle.bands.proofs.Bands.{Canon, cover-below, cover-canon}
 
 -- ---- test 5
 
 -- of a tensor that the network has
-pub record Fair (rows : ℕ) (b : Band) : Type 0 where
+pub record IsFair (rows : ℕ) (b : Band) : Type 0 where
   pub order : b .first ≤ b .end
   pub within : b .end ≤ rows
   pub canon : Canon b
 
-pub canon-fair : (rows : ℕ) (b : Band) → b .end ≤ rows → Canon b → Fair rows b
+pub canon-fair : (rows : ℕ) (b : Band) → b .end ≤ rows → Canon b → IsFair rows b
 canon-fair rows b h c = record { order = ⊎-elim (λ k. omega arith) (λ e. rw e (omega arith)) c; within = h; canon = c }
 
-pub cover-fair : (rows : ℕ) (a b : Band) → Fair rows a → Fair rows b → Fair rows (cover a b)
+pub cover-fair : (rows : ℕ) (a b : Band) → IsFair rows a → IsFair rows b → IsFair rows (cover a b)
 cover-fair rows a b p q = canon-fair rows (cover a b) (cover-below rows a b (p .within) (q .within)) (cover-canon a b (p .canon) (q .canon))
 
-pub whole-fair : (rows : ℕ) → Fair rows (band 0 rows)
+pub whole-fair : (rows : ℕ) → IsFair rows (band 0 rows)
 whole-fair zero = canon-fair 0 none (omega arith) (inr refl)
 whole-fair (suc k) = canon-fair (suc k) (band 0 (suc k)) (omega arith) (inl (omega arith))
 
 same-band : (b : Band) (f e : ℕ) → b .first ≡ f → b .end ≡ e → b ≡ band f e
 same-band b f e p q = λ t. record { first = p t; end = q t }
 
-fair-says : (rows : ℕ) (b : Band) → fair rows b ≡ true → Fair rows b
+fair-says : (rows : ℕ) (b : Band) → fair rows b ≡ true → IsFair rows b
 fair-says rows b h = record { order = lo; within = leb-true _ _ (w .1); canon = go (ltb (b .first) (b .end)) refl (v .1) }
   where
     v : ((leb (b .first) (b .end) && leb (b .end) rows) ≡ true) × ((ltb (b .first) (b .end) || eqb (b .end) 0) ≡ true)
@@ -59,7 +59,7 @@ fair-says rows b h = record { order = lo; within = leb-true _ _ (w .1); canon = 
         let z : b .end ≡ 0 = eqb-true _ _ e in
         inr (same-band b 0 0 (omega (arith, lo)) z)
 
-says-fair : (rows : ℕ) (b : Band) → Fair rows b → fair rows b ≡ true
+says-fair : (rows : ℕ) (b : Band) → IsFair rows b → fair rows b ≡ true
 says-fair rows b f =
     rw (le-leb _ _ (f .order), le-leb _ _ (f .within)) (⊎-elim (λ h. rw (lt-ltb (b .first) (b .end) h)) (λ e. rw e) (f .canon))
 
@@ -84,14 +84,14 @@ every-passed s n = go (every 17 (fairAt s n))
     go false h = absurd (omega arith)
 
 module _ (s : State) (n : Tensors) where
-  pub passed-fair : stateFault s n ≡ 0 → (t : ℕ) → t < 17 → t ≤ n .count → Fair (rowsOf n t) (bandOf s t)
+  pub passed-fair : stateFault s n ≡ 0 → (t : ℕ) → t < 17 → t ≤ n .count → IsFair (rowsOf n t) (bandOf s t)
   passed-fair h t ht hc = fair-says _ _ (rw (le-leb t (n .count) hc) at (every-at (fairAt s n) 17 (every-passed s n h) t ht))
 
   pub passed-absent : stateFault s n ≡ 0 → (t : ℕ) → t < 17 → n .count < t → bandOf s t ≡ none
   passed-absent h t ht hc = absent-says _ (rw (lt-leb t (n .count) hc) at (every-at (fairAt s n) 17 (every-passed s n h) t ht))
 
   -- and it refuses nothing else
-  pub passes : ((t : ℕ) → t < 17 → t ≤ n .count → Fair (rowsOf n t) (bandOf s t)) → ((t : ℕ) → t < 17 → n .count < t → bandOf s t ≡ none) → stateFault s n ≡ 0
+  pub passes : ((t : ℕ) → t < 17 → t ≤ n .count → IsFair (rowsOf n t) (bandOf s t)) → ((t : ℕ) → t < 17 → n .count < t → bandOf s t ≡ none) → stateFault s n ≡ 0
   unfolding stateFault
   passes f a = rw (every-all (fairAt s n) 17 (λ t ht.
       elim (decLe t (n .count)) [
@@ -119,7 +119,7 @@ loadedBand n t = cond (leb t (n .count)) (band 0 (rowsOf n t)) none
 
 pub loaded-at : (n : Tensors) (t : ℕ) → t < 17 → bandOf (loaded n) t ≡ loadedBand n t
 unfolding loaded
-loaded-at n t h = table-at (loadedBand n) 17 t h
+loaded-at n t h = joined-at 17 (loadedBand n) none t h
 
 -- ---- each call leaves a state that passes
 
@@ -145,10 +145,10 @@ loaded-passes n =
     (λ t ht h. loaded-at n t ht ∙ rw (lt-leb t (n .count) h))
 
 -- where a band that passes is stored
-stored-passes : (s : State) (n : Tensors) (k : ℕ) (b : Band) → stateFault s n ≡ 0 → k ≤ n .count → Fair (rowsOf n k) b → stateFault (withBand s k b) n ≡ 0
+stored-passes : (s : State) (n : Tensors) (k : ℕ) (b : Band) → stateFault s n ≡ 0 → k ≤ n .count → IsFair (rowsOf n k) b → stateFault (withBand s k b) n ≡ 0
 stored-passes s n k b h hk hb =
     passes (withBand s k b) n
-    (λ t ht hc. with-each (λ t x. t < 17 → t ≤ n .count → Fair (rowsOf n t) x) s k b (λ _ _. hb) t (passed-fair s n h t) ht hc)
+    (λ t ht hc. with-each (λ t x. t < 17 → t ≤ n .count → IsFair (rowsOf n t) x) s k b (λ _ _. hb) t (passed-fair s n h t) ht hc)
     (λ t ht hc. with-each (λ t x. t < 17 → n .count < t → x ≡ none) s k b (λ _ c. absurd (omega arith)) t (passed-absent s n h t) ht hc)
 
 pub changed-passes : (s : State) (n : Tensors) (first end : ℕ) → stateFault s n ≡ 0 → first < end → end ≤ rowsOf n 0 → stateFault (changed s first end) n ≡ 0

@@ -1,6 +1,6 @@
 -- A band of rows, first up to but not including end.
 -- Assumes nothing.
-use Prim.Native.Nat.{ℕ, zero, suc, min, max}
+use Prim.Native.Nat.{ℕ, zero, suc, min, max, _≤_, _<_}
 use mathlib.Core.Bool.{Bool, _&&_, cond}
 use lib.Dec.{leb, ltb}
 use Rattle.bands.specs.declared.band.Band.{Band}
@@ -15,6 +15,10 @@ none = band 0 0
 -- row i is in the band
 abbrev pub inBand : Band → ℕ → Bool
 inBand b i = leb (b .first) i && ltb i (b .end)
+
+-- the same, as a proposition
+abbrev pub In : ℕ → Band → Type 0
+In i b = (b .first ≤ i) × (i < b .end)
 
 -- no row is
 abbrev pub isEmpty : Band → Bool

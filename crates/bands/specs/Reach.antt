@@ -7,16 +7,16 @@ use mathlib.Core.Bool.{Bool, _&&_}
 use lib.Dec.{leb}
 use Rattle.bands.specs.declared.band.Band.{Band}
 use Rattle.bands.specs.declared.reach.Link.{Link}
-use Rattle.bands.specs.Choice.{some}
+use Rattle.lists.specs.Choice.{some}
 use Rattle.bands.specs.Band.{inBand, span}
 
 -- place p of the padded input, `before` places of padding first, is a row of the band
-abbrev pub held : Band → ℕ → ℕ → Bool
-held b before p = leb before p && inBand b (p - before)
+abbrev pub inBandAt : Band → ℕ → ℕ → Bool
+inBandAt b before p = leb before p && inBand b (p - before)
 
 -- row i is reached: some row of its window is in the band
 unfoldable pub isReached : Band → Link → ℕ → Bool
-isReached b y i = some (y .kernel) (λ a. held b (y .before) (i * y .stride + a))
+isReached b y i = some (y .kernel) (λ a. inBandAt b (y .before) (i * y .stride + a))
 
 -- the smallest band covering the reached rows
 unfoldable pub reachedBand : Band → Link → Band

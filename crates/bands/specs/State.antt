@@ -1,14 +1,15 @@
 -- The state: a band for each of tensors 0 to 16. Test 5, and the state that each call leaves.
 -- Assumes nothing.
-use Prim.Native.Nat.{ℕ, zero, suc}
+use Prim.Native.Nat.{ℕ}
 use mathlib.Core.Bool.{Bool, _&&_, _||_, cond}
-use mathlib.Core.List.{List, [], _∷_, _++_}
+use mathlib.Core.List.{[], _∷_}
 use lib.Dec.{leb, ltb, eqb}
 use lib.ListN.{getD, set, replicate}
+use Rattle.lists.specs.Lists.{joined}
 use Rattle.bands.specs.declared.band.Band.{Band}
 use Rattle.bands.specs.declared.state.State.{State}
 use Rattle.bands.specs.declared.state.Tensors.{Tensors}
-use Rattle.bands.specs.Choice.{every}
+use Rattle.lists.specs.Choice.{every}
 use Rattle.bands.specs.Band.{band, none, isEmpty, cover}
 
 -- the band of tensor t
@@ -51,14 +52,9 @@ stateFault s n = cond (every 17 (fairAt s n)) 0 5
 unfoldable pub clean : State → Bool
 clean s = every 17 (λ t. isEmpty (bandOf s t))
 
--- f 0, f 1, .. f (k − 1)
-unfoldable pub table : ℕ → (ℕ → Band) → List Band
-table zero f = []
-table (suc k) f = table k f ++ (f k ∷ [])
-
 -- load: every existing tensor's band covers all its rows, the others are empty
 unfoldable pub loaded : Tensors → State
-loaded n = record { bands = table 17 (λ t. cond (leb t (n .count)) (band 0 (rowsOf n t)) none) }
+loaded n = record { bands = joined 17 (λ t. cond (leb t (n .count)) (band 0 (rowsOf n t)) none ∷ []) }
 
 -- change rows: band 0 becomes the smallest band covering the old one and the new rows
 abbrev pub changed : State → ℕ → ℕ → State

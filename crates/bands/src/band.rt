@@ -1,7 +1,8 @@
 // A band of rows.
 ghost use mathlib.Core.Path.{_≡_};
-ghost use Prim.Native.Nat.{min, max};
+ghost use Prim.Native.Nat.{max};
 ghost use Rattle.bands.specs.Band.{cover as coverOf};
+use numbers::small::smaller;
 
 // The rows from first up to but not including end; empty is 0, 0.
 pub struct Band {
@@ -9,13 +10,8 @@ pub struct Band {
     pub end: u16,
 }
 
-pub fn smaller(a: u16, b: u16) -> u16
-    ensures { λ r. ⌜ r ≡ min a b ⌝ }
-{
-    if a < b { a } else { b }
-}
-
-pub fn larger(a: u16, b: u16) -> u16
+// The larger of two.
+fn larger(a: u16, b: u16) -> u16
     ensures { λ r. ⌜ r ≡ max a b ⌝ }
 {
     if a < b { b } else { a }
@@ -32,7 +28,7 @@ pub fn cover(a: Band, b: Band) -> Band
         return a;
     }
     Band {
-        first: smaller(a.first, b.first),
+        first: smaller(a.first as usize, b.first as usize) as u16,
         end: larger(a.end, b.end),
     }
 }

@@ -1,15 +1,17 @@
 // What a band of a layer's input reaches, and one layer's growth.
 ghost use mathlib.Core.Path.{_≡_};
-ghost use Prim.Native.Nat.{_-_, _≤_, _<_};
+ghost use Prim.Native.Nat.{_≤_, _<_};
+ghost use Rattle.numbers.specs.Limits.{tensorMost};
 ghost use Rattle.bands.specs.Reach.{reachedBand};
 ghost use Rattle.bands.specs.Grow.{growOne};
 ghost use Rattle.bands.specs.State.{bandOf};
 use crate::band::Band;
 use crate::band::cover;
-use crate::band::smaller;
 use crate::state::State;
 use crate::state::band_of;
 use crate::state::with_band;
+use numbers::small::less;
+use numbers::small::smaller;
 
 // How a layer hangs on its inputs: its second input (its first where it has one), and the rows of its window.
 pub struct Link {
@@ -20,23 +22,21 @@ pub struct Link {
     pub rows: u16,
 }
 
-// a less b, or 0.
-fn less(a: u16, b: u16) -> u16
-    ensures { λ r. ⌜ r ≡ a - b ⌝ }
-{
-    if a < b { 0 } else { a - b }
-}
-
 // The smallest band covering the layer's rows that the band b of an input reaches, by two divisions.
 pub fn reached(b: Band, y: Link) -> Band
-    requires { ⌜ (b .end ≤ 16384) × (y .before ≤ 256) × (0 < y .kernel) × (0 < y .stride) × (y .stride ≤ 256) ⌝ }
+    requires { ⌜ (b .end ≤ tensorMost) × (y .before ≤ 256) × (0 < y .kernel) × (0 < y .stride) × (y .stride ≤ 256) ⌝ }
     ensures { λ r. ⌜ r ≡ reachedBand b y ⌝ }
 {
     if b.first < b.end {
-        let first = less(b.first + y.before + y.stride, y.kernel) / y.stride;
-        let end = smaller(y.rows, (b.end + y.before - 1) / y.stride + 1);
+        let before = y.before as usize;
+        let stride = y.stride as usize;
+        let first = less(b.first as usize + before + stride, y.kernel as usize) / stride;
+        let end = smaller(y.rows as usize, (b.end as usize + before - 1) / stride + 1);
         if first < end {
-            return Band { first, end };
+            return Band {
+                first: first as u16,
+                end: end as u16,
+            };
         }
     }
     Band { first: 0, end: 0 }
@@ -44,7 +44,7 @@ pub fn reached(b: Band, y: Link) -> Band
 
 // The band of layer m's tensor grows by what the bands of its inputs reach.
 pub fn grow_one(s: State, y: Link, m: usize) -> State
-    requires { ⌜ (m < 16) × (y .other ≤ m) × (bandOf s m .end ≤ 16384) × (bandOf s (y .other) .end ≤ 16384) ⌝ }
+    requires { ⌜ (m < 16) × (y .other ≤ m) × (bandOf s m .end ≤ tensorMost) × (bandOf s (y .other) .end ≤ tensorMost) ⌝ }
     requires { ⌜ (y .before ≤ 256) × (0 < y .kernel) × (0 < y .stride) × (y .stride ≤ 256) ⌝ }
     ensures { λ r. ⌜ r ≡ growOne s y m ⌝ }
 {

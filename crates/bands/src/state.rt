@@ -16,6 +16,7 @@ pub struct Tensors {
     pub rows: [u16; 17],
 }
 
+// The band of tensor t.
 pub fn band_of(s: State, t: usize) -> Band
     requires { ⌜ t < 17 ⌝ }
     ensures { λ r. ⌜ r ≡ bandOf s t ⌝ }
@@ -23,6 +24,7 @@ pub fn band_of(s: State, t: usize) -> Band
     s.bands[t]
 }
 
+// The state with another band for tensor t.
 pub fn with_band(s: State, t: usize, b: Band) -> State
     requires { ⌜ t < 17 ⌝ }
     ensures { λ r. ⌜ r ≡ withBand s t b ⌝ }
@@ -41,6 +43,7 @@ pub fn all_stale() -> State
     }
 }
 
+// Every band empty: what an update leaves.
 pub fn all_empty() -> State
     ensures { λ r. ⌜ r ≡ allEmpty ⌝ }
 {
@@ -122,12 +125,8 @@ pub fn after_load(n: Tensors) -> State
     let mut bands = [Band { first: 0, end: 0 }; 17];
     let mut t: usize = 0;
     while t < 17 {
-        if t <= count {
-            bands[t] = Band {
-                first: 0,
-                end: rows[t],
-            };
-        }
+        let end = if t <= count { rows[t] } else { 0 };
+        bands[t] = Band { first: 0, end };
         t += 1;
     }
     State { bands }

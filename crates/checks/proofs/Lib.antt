@@ -1,6 +1,5 @@
 -- Laws that belong to no one function.
 pub mod Links
-pub mod Numbers
 pub mod Pairs
 pub mod Passed
 pub mod Rows

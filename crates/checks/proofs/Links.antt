@@ -1,22 +1,22 @@
 -- How the layers hang on their inputs: what a network that is taken ensures of its links.
 -- Assumes nothing.
-use Prim.Native.Nat.{ℕ, zero, suc, _+_, _-_, _*_, _/_, _≤_, _<_}
+use Prim.Native.Nat.{ℕ, suc, _+_, _-_, _*_, _/_, _≤_, _<_}
 use mathlib.Core.Path.{_≡_, refl, sym, _∙_, ap, subst}
 use mathlib.Core.List.{List}
 use native.Mathlib.Omega.{arith}
-use Rattle.fields.specs.Shape.{GoodShape}
+use Rattle.fields.specs.Asked.{GoodShape}
 use Rattle.fields.specs.declared.shape.Shape.{Shape}
-use Rattle.records.specs.Frame.{frameOutput, FrameOk, Fits}
-use Rattle.records.specs.Layer.{outputShape, otherOf, KindOk, KindFits}
+use Rattle.records.specs.Frame.{frameOutput}
+use Rattle.records.specs.Asked.{FrameOk, FrameFits, KindOk, KindFits}
+use Rattle.records.specs.Layer.{outputShape, otherOf}
 use Rattle.records.specs.declared.frame.Frame.{Frame}
 use Rattle.records.specs.declared.layer.Kind.{Kind}
-use Rattle.records.specs.declared.layer.Kind.the-variants.{Convolution, Fully, Addition}
+use Rattle.records.specs.declared.layer.Kind.the-variants.{Conv, Full, Add}
 use Rattle.records.specs.declared.layer.Layer.{Layer}
 use Rattle.network.specs.Network.{layerOf, tensorOf}
 use Rattle.network.specs.Taken.{LayerTaken, Taken}
 use Rattle.network.specs.declared.net.Network.{Network}
 use Rattle.bands.specs.declared.reach.Link.{Link}
-use Rattle.bands.specs.Windows.{Shape as Chain, rowsIn, Sound}
 use Rattle.bands.proofs.Reached.{row-starts}
 use Rattle.checks.specs.Tensors.{linkBy, linkOf}
 use Rattle.checks.proofs.Rows.{input-good}
@@ -42,7 +42,7 @@ pub record LinkOk (n : Network) (m : ℕ) (y : Link) : Type 0 where
 frame-starts :
     (f : Frame) (i : Shape) (channels rows : ℕ) →
     FrameOk f →
-    Fits f i →
+    FrameFits f i →
     rows ≡ frameOutput f i channels .rows →
     (r : ℕ) →
     r < rows →
@@ -87,7 +87,7 @@ module _ (s : List ℕ) (n : Network) (m : ℕ) (l : LayerTaken s n m (layerOf n
       otherOf k m ≤ m →
       tensorOf n (otherOf k m) ≡ layerOf n m .input →
       LinkOk n m (linkBy k (layerOf n m) m)
-  link-by (Convolution c) ok fit made there same = record {
+  link-by (Conv c) ok fit made there same = record {
     other-before = omega arith;
     other-rows = refl;
     before-few = omega (arith, ok .frame .padding-rows, ok .frame .height-few);
@@ -103,38 +103,15 @@ module _ (s : List ℕ) (n : Network) (m : ℕ) (l : LayerTaken s n m (layerOf n
           input-rows,
         );
   }
-  link-by (Fully f) ok fit made there same =
+  link-by (Full f) ok fit made there same =
       plain m (layerOf n m .input .rows) (omega arith) refl (good .rows-some)
       (omega (arith, ap (λ (x : Shape). x .rows) made, good .rows-some))
-  link-by (Addition a) ok fit made there same =
+  link-by (Add a) ok fit made there same =
       plain (a .other) 1 there (ap (λ (x : Shape). x .rows) same ∙ input-rows) (omega arith)
       (omega (arith, ap (λ (x : Shape). x .rows) made))
-
--- the layers as the history sees them
-abbrev pub chainOf : Network → Chain
-chainOf n = record { n = n .count; top = n .picture .rows; links = linkOf n }
-
-link-rows : (k : Kind) (y : Layer) (m : ℕ) → linkBy k y m .rows ≡ y .output .rows
-link-rows (Convolution c) y m = refl
-link-rows (Fully f) y m = refl
-link-rows (Addition a) y m = refl
-
-pub chain-rows : (n : Network) (t : ℕ) → rowsIn (chainOf n) t ≡ tensorOf n t .rows
-chain-rows n zero = refl
-chain-rows n (suc m) = link-rows (layerOf n m .kind) (layerOf n m) m
 
 module _ (s : List ℕ) (n : Network) (t : Taken s n) where
   pub link-ok : (m : ℕ) → m < n .count → LinkOk n m (linkOf n m)
   link-ok m h =
       let k = t .layers m h .kind in
       link-by s n m (t .layers m h) (input-good s n t m h) (layerOf n m .kind) (k .ok) (k .fits) (k .output) (k .other-there) (k .other-shape)
-
-  pub links-sound : Sound (chainOf n)
-  links-sound = record {
-    other-before = λ m h. link-ok m h .other-before;
-    other-rows = λ m h. chain-rows n (linkOf n m .other) ∙ link-ok m h .other-rows ∙ sym (chain-rows n m);
-    some-rows = λ u h. omega (arith, chain-rows n u, t .shapes u h .rows-some);
-    stride-pos = λ m h. link-ok m h .stride-some;
-    before-less = λ m h. link-ok m h .before-less;
-    starts = λ m i h q. omega (arith, link-ok m h .starts i q, chain-rows n m);
-  }

@@ -23,7 +23,7 @@ use Rattle.checks.proofs.Pairs.{both-none}
 
 -- tests 1 to 4
 pub record LoadPassed (file : List ℕ) (sums area : ℕ) : Type 0 where
-  pub refusal : decodeOf file .refusal ≡ 0
+  pub fault : decodeOf file .fault ≡ 0
   pub taken : Taken file (decodeOf file .network)
   pub store-in : decodeOf file .network .store ≤ sums
   pub area-in : decodeOf file .network .area ≤ area
@@ -34,7 +34,7 @@ load-passed file sums area p =
     let n = decodeOf file .network in
     let q = first-both _ _ p in
     let room = both-none (leb (n .store) sums) (leb (n .area) area) 3 (q .1) in
-    record { refusal = q .0; taken = taken file (q .0); store-in = leb-true _ _ (room .0); area-in = leb-true _ _ (room .1) }
+    record { fault = q .0; taken = taken file (q .0); store-in = leb-true _ _ (room .0); area-in = leb-true _ _ (room .1) }
 
 -- tests 1 to 6 are 1 to 4, and then 5 and 6
 pub call-is :

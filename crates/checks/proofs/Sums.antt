@@ -4,7 +4,7 @@ use Prim.Native.Nat.{ℕ, _+_, _*_, _≤_, _<_}
 use mathlib.Core.Path.{_≡_, _∙_, ap}
 use mathlib.Core.Bool.{Bool}
 use mathlib.Core.List.{List}
-use borrow.Author.Tests.{leb-true, le-leb}
+use borrow.Author.Tests.{leb-true}
 use lib.Dec.{leb}
 use lib.ListN.{getD}
 use Rattle.records.specs.Layer.{sumsOf, termsOf}
@@ -12,8 +12,8 @@ use Rattle.records.specs.declared.layer.Layer.{Layer}
 use Rattle.fields.proofs.Tests.{unless-none}
 use Rattle.network.specs.Network.{layerOf}
 use Rattle.network.specs.declared.net.Network.{Network}
-use Rattle.bands.specs.Choice.{every}
-use Rattle.bands.proofs.Choice.{every-at, every-all}
+use Rattle.lists.specs.Choice.{every}
+use Rattle.lists.proofs.Choice.{every-at}
 use Rattle.checks.specs.Tests.{layerSumsFit, sumsFault}
 
 -- the stored sum f of those that begin at a place is at most `most`
@@ -50,7 +50,3 @@ module _ (n : Network) (sums : List ℕ) where
       (every-at (sumIn sums (y .sums) (255 * termsOf (y .kind) (y .input))) (sumsOf (y .kind))
       (every-at (λ k. layerSumsFit (layerOf n k) sums) (n .count) all m h)
       f g)
-
-  pub sums-pass : SumsFit → sumsFault n sums ≡ 0
-  unfolding sumsFault layerSumsFit
-  sums-pass fit = rw (every-all (λ k. layerSumsFit (layerOf n k) sums) (n .count) (λ m h. every-all _ _ (λ f g. le-leb _ _ (fit m f h g))))

@@ -1,24 +1,20 @@
 -- What the bands need of a network: the rows of its tensors, and how each layer hangs on its inputs.
 -- Assumes nothing.
-use Prim.Native.Nat.{ℕ, zero, suc}
-use mathlib.Core.List.{List, [], _∷_, _++_}
+use Prim.Native.Nat.{ℕ}
+use mathlib.Core.List.{[], _∷_}
+use Rattle.lists.specs.Lists.{joined}
 use Rattle.records.specs.declared.frame.Frame.{Frame}
 use Rattle.records.specs.declared.layer.Kind.{Kind}
-use Rattle.records.specs.declared.layer.Kind.the-variants.{Convolution, Fully, Addition}
+use Rattle.records.specs.declared.layer.Kind.the-variants.{Conv, Full, Add}
 use Rattle.records.specs.declared.layer.Layer.{Layer}
 use Rattle.network.specs.Network.{layerOf, tensorOf}
 use Rattle.network.specs.declared.net.Network.{Network}
 use Rattle.bands.specs.declared.state.Tensors.{Tensors}
 use Rattle.bands.specs.declared.reach.Link.{Link}
 
--- f 0, f 1, .. f (k − 1)
-unfoldable pub numbers : ℕ → (ℕ → ℕ) → List ℕ
-numbers zero f = []
-numbers (suc k) f = numbers k f ++ (f k ∷ [])
-
 -- the rows of tensors 0 to 16, 0 for those that the network lacks
 abbrev pub tensorsOf : Network → Tensors
-tensorsOf n = record { count = n .count; rows = numbers 17 (λ t. tensorOf n t .rows) }
+tensorsOf n = record { count = n .count; rows = joined 17 (λ t. tensorOf n t .rows ∷ []) }
 
 -- row i of a windowed layer looks at the rows from i × stride − p on, as many as the kernel has
 abbrev pub frameLink : Frame → ℕ → ℕ → Link
@@ -26,9 +22,9 @@ frameLink f m rows = record { other = m; before = f .padding; kernel = f .height
 
 -- a full layer's row looks at all of them; an add's row i at row i of both inputs
 abbrev pub linkBy : Kind → Layer → ℕ → Link
-linkBy (Convolution c) y m = frameLink (c .frame) m (y .output .rows)
-linkBy (Fully f) y m = record { other = m; before = 0; kernel = y .input .rows; stride = 1; rows = y .output .rows }
-linkBy (Addition a) y m = record { other = a .other; before = 0; kernel = 1; stride = 1; rows = y .output .rows }
+linkBy (Conv c) y m = frameLink (c .frame) m (y .output .rows)
+linkBy (Full f) y m = record { other = m; before = 0; kernel = y .input .rows; stride = 1; rows = y .output .rows }
+linkBy (Add a) y m = record { other = a .other; before = 0; kernel = 1; stride = 1; rows = y .output .rows }
 
 -- how layer m, counted from 0, hangs on its inputs
 abbrev pub linkOf : Network → ℕ → Link

@@ -12,7 +12,7 @@ use Rattle.records.specs.declared.layer.Layer.{Layer}
 use Rattle.network.specs.Network.{layerOf, tensorOf}
 use Rattle.network.specs.Decode.{decodeOf}
 use Rattle.network.specs.declared.net.Network.{Network}
-use Rattle.bands.specs.Choice.{every}
+use Rattle.lists.specs.Choice.{every}
 use Rattle.bands.specs.State.{stateFault, clean}
 use Rattle.bands.specs.declared.state.State.{State}
 use Rattle.checks.specs.Tensors.{tensorsOf}
@@ -31,15 +31,18 @@ sumsFault n sums = unless (every (n .count) (λ m. layerSumsFit (layerOf n m) su
 
 -- load tests 1 to 4
 unfoldable pub loadFault : List ℕ → ℕ → ℕ → ℕ
-loadFault file sums area = firstFault (decodeOf file .refusal ∷ roomFault (decodeOf file .network) sums area ∷ [])
+loadFault file sums area = firstFault (decodeOf file .fault ∷ roomFault (decodeOf file .network) sums area ∷ [])
 
--- the others test 1 to 6
-unfoldable pub callFault : List ℕ → List ℕ → ℕ → State → ℕ
-callFault file sums area s = firstFault (
-    decodeOf file .refusal ∷
+-- the others test 1 to 6, in this order
+abbrev pub callTests : List ℕ → List ℕ → ℕ → State → List ℕ
+callTests file sums area s =
+    decodeOf file .fault ∷
     roomFault (decodeOf file .network) (length sums) area ∷
     stateFault s (tensorsOf (decodeOf file .network)) ∷
-    sumsFault (decodeOf file .network) sums ∷ [])
+    sumsFault (decodeOf file .network) sums ∷ []
+
+unfoldable pub callFault : List ℕ → List ℕ → ℕ → State → ℕ
+callFault file sums area s = firstFault (callTests file sums area s)
 
 -- test 7 of change rows: no rows, or rows beyond the picture, or rows of the wrong length
 unfoldable pub rowsFault : Network → ℕ → ℕ → ℕ → ℕ

@@ -1,6 +1,7 @@
 // What the bands need of a network.
 ghost use mathlib.Core.Path.{_≡_};
 ghost use Prim.Native.Nat.{ℕ, _≤_, _<_};
+ghost use Rattle.numbers.specs.Limits.{tensorMost};
 ghost use Rattle.network.specs.Network.{layerOf, tensorOf};
 ghost use Rattle.checks.specs.Tensors.{tensorsOf, frameLink, linkOf};
 use bands::reach::Link;
@@ -13,7 +14,7 @@ use records::layer::Kind;
 
 // The rows of each tensor.
 pub fn tensors_of(n: Network) -> Tensors
-    requires { ⌜ ((t : ℕ) → tensorOf n t .rows ≤ 16384) ⌝ }
+    requires { ⌜ ((t : ℕ) → tensorOf n t .rows ≤ tensorMost) ⌝ }
     ensures { λ r. ⌜ r ≡ tensorsOf n ⌝ }
 {
     let mut rows = [0u16; 17];
@@ -44,7 +45,7 @@ fn frame_link(f: Frame, m: usize, rows: u16) -> Link
 
 // How layer m hangs on its inputs.
 pub fn link_of(n: Network, m: usize) -> Link
-    requires { ⌜ (m < 16) × (layerOf n m .input .rows ≤ 16384) × (layerOf n m .output .rows ≤ 16384) ⌝ }
+    requires { ⌜ (m < 16) × (layerOf n m .input .rows ≤ tensorMost) × (layerOf n m .output .rows ≤ tensorMost) ⌝ }
     ensures { λ r. ⌜ r ≡ linkOf n m ⌝ }
 {
     let y = layer(n, m);
@@ -53,18 +54,18 @@ pub fn link_of(n: Network, m: usize) -> Link
     let rows = output.rows as u16;
     let kind = y.kind;
     match kind {
-        Kind::Convolution(c) => {
+        Kind::Conv(c) => {
             let frame = c.frame;
             frame_link(frame, m, rows)
         }
-        Kind::Fully(_) => Link {
+        Kind::Full(_) => Link {
             other: m,
             before: 0,
             kernel: input.rows as u16,
             stride: 1,
             rows,
         },
-        Kind::Addition(a) => {
+        Kind::Add(a) => {
             let other = a.other as usize;
             Link {
                 other,

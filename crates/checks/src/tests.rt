@@ -2,8 +2,9 @@
 ghost use mathlib.Core.Path.{_≡_};
 ghost use Prim.Native.Nat.{_+_, _≤_, _<_};
 ghost use lib.ListN.{length};
+ghost use Rattle.numbers.specs.Limits.{tensorMost};
 ghost use Rattle.records.specs.Layer.{sumsOf, termsOf};
-ghost use Rattle.fields.specs.Shape.{GoodShape};
+ghost use Rattle.fields.specs.Asked.{GoodShape};
 ghost use Rattle.network.specs.Network.{tensorOf};
 ghost use Rattle.network.specs.Decode.{decodeOf};
 ghost use Rattle.network.specs.Taken.{Taken};
@@ -22,9 +23,9 @@ use records::layer::Layer;
 use records::layer::sums_of;
 use records::layer::terms_of;
 
-// The refusal number so far, and the network of the file.
+// The fault met so far, and the network of the file.
 pub struct Tested {
-    pub number: u8,
+    pub fault: u8,
     pub network: Network,
 }
 
@@ -43,7 +44,7 @@ fn room_fault(n: Network, sums: usize, area: usize) -> u8
 // Whether no stored sum of a layer is above 255N.
 fn sums_fit(y: Layer, sums: &[u32]) -> bool
     requires { ⌜ GoodShape (y .input) ⌝ }
-    requires { ⌜ termsOf (y .kind) (y .input) ≤ 16384 ⌝ }
+    requires { ⌜ termsOf (y .kind) (y .input) ≤ tensorMost ⌝ }
     requires { ⌜ y .sums + sumsOf (y .kind) ≤ length (now sums) ⌝ }
     ensures { λ r. ⌜ r ≡ layerSumsFit y (now (sums .entry)) ⌝ }
 {
@@ -80,31 +81,31 @@ fn sums_fault(file: &[u8], n: Network, sums: &[u32]) -> u8
 
 // Tests 1 to 4, with the lengths of the sum store and of the area.
 pub fn test_load(file: &[u8], sums: usize, area: usize) -> Tested
-    ensures { λ r. ⌜ (r .number ≡ loadFault (now (file .entry)) sums area) × (r .network ≡ decodeOf (now (file .entry)) .network) ⌝ }
+    ensures { λ r. ⌜ (r .fault ≡ loadFault (now (file .entry)) sums area) × (r .network ≡ decodeOf (now (file .entry)) .network) ⌝ }
 {
     let d = decode(file);
     let network = d.network;
     Tested {
-        number: first_of(d.refusal, room_fault(network, sums, area)),
+        fault: first_of(d.fault, room_fault(network, sums, area)),
         network,
     }
 }
 
 // Tests 1 to 6.
 pub fn test_call(file: &[u8], sums: &[u32], area: usize, s: State) -> Tested
-    ensures { λ r. ⌜ (r .number ≡ callFault (now (file .entry)) (now (sums .entry)) area s) × (r .network ≡ decodeOf (now (file .entry)) .network) ⌝ }
+    ensures { λ r. ⌜ (r .fault ≡ callFault (now (file .entry)) (now (sums .entry)) area s) × (r .network ≡ decodeOf (now (file .entry)) .network) ⌝ }
 {
     let t = test_load(file, sums.len(), area);
     let network = t.network;
-    if t.number != 0 {
+    if t.fault != 0 {
         return Tested {
-            number: t.number,
+            fault: t.fault,
             network,
         };
     }
     let state = state_fault(s, tensors_of(network));
     Tested {
-        number: first_of(state, sums_fault(file, network, sums)),
+        fault: first_of(state, sums_fault(file, network, sums)),
         network,
     }
 }

@@ -15,15 +15,15 @@ use Rattle.network.specs.Network.{layerOf, tensorOf, placeOf}
 use Rattle.network.specs.Decode.{decodeOf}
 use Rattle.network.specs.Replace.{replaceFault}
 use Rattle.network.specs.declared.net.Network.{Network}
-use Rattle.windows.specs.Lists.{pasted, part}
-use Rattle.windows.proofs.Pasted.{part-length}
+use Rattle.lists.specs.Lists.{pasted, part}
+use Rattle.lists.proofs.Pasted.{part-length}
 use Rattle.layers.specs.Row.{tensorAt}
 use Rattle.layers.specs.Sums.{layerSums}
 use Rattle.bands.specs.State.{allStale, allEmpty, loaded, changed, replaced}
 use Rattle.bands.specs.declared.state.State.{State}
 use Rattle.checks.specs.Tensors.{tensorsOf}
 use Rattle.checks.specs.Tests.{loadFault, callFault, rowsFault, layerFault, sliceFault, staleFault}
-use Rattle.runs.specs.Run.{networkSums, updatedTo, countTo}
+use Rattle.updates.specs.Recompute.{networkSums, updatedTo, countTo}
 use Rattle.clew.specs.Calls.{outcome, loadBy, loadOf, changeBy, changeOf, replaceBy, replaceOf, updateBy, updateOf, readBy, readOf}
 use Rattle.clew.proofs.Entered.{Entered}
 

@@ -9,13 +9,13 @@ use Rattle.bands.specs.declared.state.State.{State}
 use Rattle.checks.specs.Tests.{callFault}
 use Rattle.checks.proofs.Passed.{call-passed}
 use Rattle.checks.proofs.Rows.{bands-fair}
-use Rattle.runs.specs.Run.{CanRun, Fair}
+use Rattle.updates.specs.Asked.{CanRecompute, BandsWithin}
 
 pub record Entered (file sums : List ℕ) (area : ℕ) (s : State) (n : Network) : Type 0 where
   pub none : callFault file sums area s ≡ 0
   pub network : n ≡ decodeOf file .network
-  pub can : CanRun file n sums area
-  pub fair : Fair n s
+  pub can : CanRecompute file n sums area
+  pub fair : BandsWithin n s
 
 pub entered :
     (file sums : List ℕ) (area : ℕ) (s : State) {r : ℕ} {n : Network} →

@@ -6,7 +6,8 @@ use mathlib.Core.List.{List}
 use native.Mathlib.Nat.{mul-le-mul-right}
 use native.Mathlib.Omega.{arith}
 use lib.ListN.{length}
-use Rattle.fields.specs.Shape.{bytesOf, rowBytes, GoodShape}
+use Rattle.fields.specs.Shape.{bytesOf, rowBytes}
+use Rattle.fields.specs.Asked.{GoodShape}
 use Rattle.records.specs.Layer.{sumsOf, termsOf, weightsAt, recordLen}
 use Rattle.records.specs.declared.layer.Layer.{Layer}
 use Rattle.fields.proofs.Shapes.{mul-most}
@@ -19,8 +20,8 @@ use Rattle.network.proofs.Places.{tensors-in}
 use Rattle.checks.specs.Tests.{rowsFault, layerFault, sliceFault}
 use Rattle.checks.proofs.Passed.{rows-passed, layer-passed, slice-passed}
 use Rattle.checks.proofs.Rows.{input-good}
-use Rattle.runs.specs.Run.{CanRun}
-use Rattle.runs.proofs.Fills.{weights-in}
+use Rattle.updates.specs.Asked.{CanRecompute}
+use Rattle.updates.proofs.Fills.{weights-in}
 
 -- rows of the picture, in the area
 pub record RowsFit (n : Network) (first count len room : ℕ) : Type 0 where
@@ -31,7 +32,7 @@ pub record RowsFit (n : Network) (first count len room : ℕ) : Type 0 where
 
 pub rows-fit :
     {file sums : List ℕ} {n : Network} {room : ℕ} (first count len : ℕ) {fault : ℕ} →
-    CanRun file n sums room →
+    CanRecompute file n sums room →
     fault ≡ rowsFault n first count len →
     fault ≡ 0 →
     RowsFit n first count len room
@@ -58,7 +59,7 @@ rows-fit {file} {sums} {n} {room} first count len c e h =
 -- the last tensor, out of the area
 pub slice-fits :
     {file sums : List ℕ} {n : Network} {room from : ℕ} (len : ℕ) →
-    CanRun file n sums room →
+    CanRecompute file n sums room →
     sliceFault n len ≡ 0 →
     from ≡ placeOf n (n .count) →
     (from + len ≤ room) × (from + len ≤ 65536)
@@ -72,7 +73,7 @@ slice-fits {file} {sums} {n} len c h place =
 pub layer-there : (n : Network) (k : ℕ) {fault : ℕ} → fault ≡ layerFault n k → fault ≡ 0 → (1 ≤ k) × (k - 1 < n .count)
 layer-there n k e h = let p = layer-passed n k (sym e ∙ h) in (p .0, omega arith)
 
-module _ {file sums : List ℕ} {n : Network} {room m : ℕ} {y : Layer} (c : CanRun file n sums room) (h : m < n .count) (e : y ≡ layerOf n m) where
+module _ {file sums : List ℕ} {n : Network} {room m : ℕ} {y : Layer} (c : CanRecompute file n sums room) (h : m < n .count) (e : y ≡ layerOf n m) where
   pub record-there : GoodShape (y .input) × (y .start + recordLen y ≤ length file)
   record-there = rw e (input-good file n (c .taken) m h, c .taken .layers m h .record-in)
 

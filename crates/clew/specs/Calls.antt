@@ -10,14 +10,14 @@ use Rattle.network.specs.Network.{layerOf}
 use Rattle.network.specs.Decode.{decodeOf}
 use Rattle.network.specs.Replace.{replaceFault}
 use Rattle.network.specs.declared.net.Network.{Network}
-use Rattle.windows.specs.Lists.{pasted}
+use Rattle.lists.specs.Lists.{pasted}
 use Rattle.fields.specs.Shape.{rowBytes}
 use Rattle.layers.specs.Sums.{layerSums}
 use Rattle.bands.specs.State.{allStale, allEmpty, loaded, changed, replaced}
 use Rattle.bands.specs.declared.state.State.{State}
 use Rattle.checks.specs.Tensors.{tensorsOf}
 use Rattle.checks.specs.Tests.{loadFault, callFault, rowsFault, layerFault, sliceFault, staleFault}
-use Rattle.runs.specs.Run.{networkSums, tensorIn, updatedTo, countTo}
+use Rattle.updates.specs.Recompute.{networkSums, tensorIn, updatedTo, countTo}
 use Rattle.clew.specs.declared.outcome.Outcome.{Outcome}
 
 abbrev pub outcome : ℕ → ℕ → State → Outcome

@@ -7,7 +7,7 @@ use bands::state::State;
 use bands::state::after_change;
 use checks::tests::rows_fault;
 use checks::tests::test_call;
-use windows::write::copy_in;
+use lists::write::copy_in;
 
 // The count rows from row `first` of the picture become `rows`, equal bytes or not.
 pub fn change_rows(
@@ -23,8 +23,8 @@ pub fn change_rows(
 {
     let t = test_call(file, sums, area.len(), state);
     let network = t.network;
-    if t.number != 0 {
-        return plain(t.number, state);
+    if t.fault != 0 {
+        return plain(t.fault, state);
     }
     let fault = rows_fault(network, first, count, rows.len());
     if fault != 0 {

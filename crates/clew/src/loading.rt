@@ -7,7 +7,7 @@ use bands::state::after_load;
 use bands::state::all_stale;
 use checks::tensors::tensors_of;
 use checks::tests::test_load;
-use runs::fill::fill_sums;
+use updates::fill::fill_sums;
 
 // Tests 1 to 4, then fills the sums. Every row of every tensor is stale afterwards, so the picture may be written
 // straight into the area before the first update.
@@ -16,8 +16,8 @@ pub fn load(file: &[u8], sums: &mut [u32], area: &[u8]) -> Outcome
 {
     let t = test_load(file, sums.len(), area.len());
     let network = t.network;
-    if t.number != 0 {
-        return plain(t.number, all_stale());
+    if t.fault != 0 {
+        return plain(t.fault, all_stale());
     }
     fill_sums(file, network, sums);
     plain(0, after_load(tensors_of(network)))

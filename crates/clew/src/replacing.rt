@@ -8,9 +8,9 @@ use bands::state::after_replace;
 use checks::tests::layer_fault;
 use checks::tests::test_call;
 use layers::sums::put_sums;
+use lists::write::copy_in;
 use network::net::layer;
 use network::replace::replace_fault;
-use windows::write::copy_in;
 
 // Layer `number`, from 1, gets the record.
 pub fn replace_layer(
@@ -25,8 +25,8 @@ pub fn replace_layer(
 {
     let t = test_call(file, sums, area.len(), state);
     let network = t.network;
-    if t.number != 0 {
-        return plain(t.number, state);
+    if t.fault != 0 {
+        return plain(t.fault, state);
     }
     let fault = layer_fault(network, number);
     if fault != 0 {

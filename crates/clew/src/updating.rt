@@ -6,7 +6,7 @@ use crate::outcome::plain;
 use bands::state::State;
 use bands::state::all_empty;
 use checks::tests::test_call;
-use runs::run::run;
+use updates::recompute::recompute;
 
 // The count is the bytes recomputed: those of the rows in the grown bands, and no others.
 pub fn update(file: &[u8], sums: &[u32], area: &mut [u8], state: State) -> Outcome
@@ -14,10 +14,10 @@ pub fn update(file: &[u8], sums: &[u32], area: &mut [u8], state: State) -> Outco
 {
     let t = test_call(file, sums, area.len(), state);
     let network = t.network;
-    if t.number != 0 {
-        return plain(t.number, state);
+    if t.fault != 0 {
+        return plain(t.fault, state);
     }
-    let count = run(file, network, sums, area, state);
+    let count = recompute(file, network, sums, area, state);
     Outcome {
         number: 0,
         count,

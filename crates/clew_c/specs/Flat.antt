@@ -1,36 +1,32 @@
 -- The state as 34 numbers: first and end of the band of tensor 0, then of tensor 1, and so on.
 -- Assumes nothing.
-use Prim.Native.Nat.{ℕ, zero, suc, _+_, _*_}
-use mathlib.Core.List.{List, [], _∷_, _++_}
+use Prim.Native.Nat.{ℕ, _+_, _*_}
+use mathlib.Core.List.{List, [], _∷_}
 use lib.ListN.{getD}
+use Rattle.lists.specs.Lists.{joined}
 use Rattle.bands.specs.Band.{band}
-use Rattle.bands.specs.State.{bandOf, table}
+use Rattle.bands.specs.State.{bandOf}
 use Rattle.bands.specs.declared.state.State.{State}
 use Rattle.clew.specs.declared.outcome.Outcome.{Outcome}
 
--- the first t bands
-unfoldable pub flatTo : State → ℕ → List ℕ
-flatTo s zero = []
-flatTo s (suc t) = flatTo s t ++ (bandOf s t .first ∷ bandOf s t .end ∷ [])
-
 abbrev pub flat : State → List ℕ
-flat s = flatTo s 17
+flat s = joined 17 (λ t. bandOf s t .first ∷ bandOf s t .end ∷ [])
 
 -- the state that 34 numbers stand for
 unfoldable pub stateOf : List ℕ → State
-stateOf l = record { bands = table 17 (λ t. band (getD l (2 * t) 0) (getD l (2 * t + 1) 0)) }
+stateOf l = record { bands = joined 17 (λ t. band (getD l (2 * t) 0) (getD l (2 * t + 1) 0) ∷ []) }
 
 -- an outcome's number and state, and the one buffer that the call may write
 abbrev pub told : Outcome × List ℕ → ℕ × List ℕ × List ℕ
 told x = (x .0 .number, x .1, flat (x .0 .state))
 
-abbrev pub replacedAs : Outcome × List ℕ × List ℕ → ℕ × List ℕ × List ℕ × List ℕ
-replacedAs x = (x .0 .number, x .1, x .2, flat (x .0 .state))
+abbrev pub replaceTold : Outcome × List ℕ × List ℕ → ℕ × List ℕ × List ℕ × List ℕ
+replaceTold x = (x .0 .number, x .1, x .2, flat (x .0 .state))
 
 -- an update tells its count too
-abbrev pub updatedAs : Outcome × List ℕ → ℕ × List ℕ × List ℕ × ℕ
-updatedAs x = (x .0 .number, x .1, flat (x .0 .state), x .0 .count)
+abbrev pub updateTold : Outcome × List ℕ → ℕ × List ℕ × List ℕ × ℕ
+updateTold x = (x .0 .number, x .1, flat (x .0 .state), x .0 .count)
 
 -- a reading hands back the state that it got
-abbrev pub readAs : Outcome × List ℕ → ℕ × List ℕ
-readAs x = (x .0 .number, x .1)
+abbrev pub readTold : Outcome × List ℕ → ℕ × List ℕ
+readTold x = (x .0 .number, x .1)

@@ -4,6 +4,7 @@ ghost use Rattle.clew_c.specs.Flat.{flat, stateOf};
 use bands::band::Band;
 use bands::state::State;
 
+// The state that 34 numbers stand for.
 pub fn state_of(numbers: &[u16; 34]) -> State
     ensures { λ r. ⌜ r ≡ stateOf (now (numbers .entry)) ⌝ }
 {
@@ -19,6 +20,7 @@ pub fn state_of(numbers: &[u16; 34]) -> State
     State { bands }
 }
 
+// The 34 numbers of a state.
 pub fn numbers_of(s: State) -> [u16; 34]
     ensures { λ r. ⌜ r ≡ flat s ⌝ }
 {

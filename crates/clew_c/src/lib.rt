@@ -1,13 +1,14 @@
 // The five calls for C and Rust: `rt staticlib clew_c` builds the archive, include/clew.h declares them.
 ghost use mathlib.Core.Path.{_≡_};
 ghost use Rattle.clew.specs.Calls.{loadOf, changeOf, replaceOf, updateOf, readOf};
-ghost use Rattle.clew_c.specs.Flat.{stateOf, told, replacedAs, updatedAs, readAs};
+ghost use Rattle.clew_c.specs.Flat.{stateOf, told, replaceTold, updateTold, readTold};
 
 mod flat;
 
 use flat::numbers_of;
 use flat::state_of;
 
+// Load: the sums are filled, and every row is stale.
 #[no_mangle]
 pub extern "C" fn clew_load(net: &[u8], sums: &mut [u32], area: &[u8], state: &mut [u16; 34]) -> u8
     ensures { λ r. ⌜ (r, now (sums .exit), now (state .exit)) ≡ told (loadOf (now (net .entry)) (now (sums .entry)) (now (area .entry))) ⌝ }
@@ -18,6 +19,7 @@ pub extern "C" fn clew_load(net: &[u8], sums: &mut [u32], area: &[u8], state: &m
     o.number
 }
 
+// Change rows: rows of the picture are written, and are stale.
 #[no_mangle]
 pub extern "C" fn clew_change_rows(
     net: &[u8],
@@ -36,6 +38,7 @@ pub extern "C" fn clew_change_rows(
     o.number
 }
 
+// Replace layer: a record and its sums are written, and its tensor is stale.
 #[no_mangle]
 pub extern "C" fn clew_replace_layer(
     net: &mut [u8],
@@ -45,7 +48,7 @@ pub extern "C" fn clew_replace_layer(
     layer: usize,
     new: &[u8],
 ) -> u8
-    ensures { λ r. ⌜ (r, now (net .exit), now (sums .exit), now (state .exit)) ≡ replacedAs (replaceOf (now (net .entry)) (now (sums .entry)) (now (area .entry)) (stateOf (now (state .entry))) layer (now (new .entry))) ⌝ }
+    ensures { λ r. ⌜ (r, now (net .exit), now (sums .exit), now (state .exit)) ≡ replaceTold (replaceOf (now (net .entry)) (now (sums .entry)) (now (area .entry)) (stateOf (now (state .entry))) layer (now (new .entry))) ⌝ }
 {
     let o = clew::replace_layer(net, sums, area, state_of(state), layer, new);
     let s = o.state;
@@ -53,6 +56,7 @@ pub extern "C" fn clew_replace_layer(
     o.number
 }
 
+// Update: what follows from stale rows is recomputed, and counted.
 #[no_mangle]
 pub extern "C" fn clew_update(
     net: &[u8],
@@ -61,7 +65,7 @@ pub extern "C" fn clew_update(
     state: &mut [u16; 34],
     count: &mut u32,
 ) -> u8
-    ensures { λ r. ⌜ (r, now (area .exit), now (state .exit), now (count .exit)) ≡ updatedAs (updateOf (now (net .entry)) (now (sums .entry)) (now (area .entry)) (stateOf (now (state .entry)))) ⌝ }
+    ensures { λ r. ⌜ (r, now (area .exit), now (state .exit), now (count .exit)) ≡ updateTold (updateOf (now (net .entry)) (now (sums .entry)) (now (area .entry)) (stateOf (now (state .entry)))) ⌝ }
 {
     let o = clew::update(net, sums, area, state_of(state));
     let s = o.state;
@@ -70,6 +74,7 @@ pub extern "C" fn clew_update(
     o.number
 }
 
+// Read: the last tensor is copied.
 #[no_mangle]
 pub extern "C" fn clew_read(
     net: &[u8],
@@ -78,7 +83,7 @@ pub extern "C" fn clew_read(
     state: &[u16; 34],
     out: &mut [u8],
 ) -> u8
-    ensures { λ r. ⌜ (r, now (out .exit)) ≡ readAs (readOf (now (net .entry)) (now (sums .entry)) (now (area .entry)) (stateOf (now (state .entry))) (now (out .entry))) ⌝ }
+    ensures { λ r. ⌜ (r, now (out .exit)) ≡ readTold (readOf (now (net .entry)) (now (sums .entry)) (now (area .entry)) (stateOf (now (state .entry))) (now (out .entry))) ⌝ }
 {
     let o = clew::read(net, sums, area, state_of(state), out);
     o.number

@@ -10,7 +10,7 @@ use lib.ListN.{length}
 use Rattle.records.specs.Layer.{recordLen}
 use Rattle.records.specs.Reader.{kindAt}
 use Rattle.records.specs.declared.layer.Kind.{Kind}
-use Rattle.records.specs.declared.layer.Kind.the-variants.{Convolution, Fully, Addition}
+use Rattle.records.specs.declared.layer.Kind.the-variants.{Conv, Full, Add}
 use Rattle.records.specs.declared.layer.Layer.{Layer}
 use Rattle.network.specs.Network.{layerOf, placeOf}
 use Rattle.network.specs.Decode.{decodeOf}
@@ -21,8 +21,8 @@ use Rattle.network.proofs.Taken.{taken}
 use Rattle.network.proofs.Places.{records-apart, records-in}
 use Rattle.network.proofs.Kindred.{bare, Kindred, kindred-same, layerAs, replace-fit, fit-kindred}
 use Rattle.network.proofs.Reread.{withKind, with-field, with-tensor, with-here, with-others, replaced-decodes}
-use Rattle.windows.specs.Lists.{pasted}
-use Rattle.windows.proofs.Pasted.{part-before, part-after}
+use Rattle.lists.specs.Lists.{pasted}
+use Rattle.lists.proofs.Pasted.{part-before, part-after}
 use Rattle.layers.proofs.Local.{SameRecord}
 use Rattle.checks.specs.Tensors.{linkBy}
 use Rattle.facts.proofs.Model.{Alike}
@@ -35,9 +35,9 @@ alike-same n = record { count = refl; area = refl; store = refl; tensors = λ t.
 link-kindred : (y : Layer) (κ : Kind) (m : ℕ) → Kindred (y .kind) κ → linkBy κ (layerAs y κ) m ≡ linkBy (y .kind) y m
 link-kindred y κ m = kindred-same (λ x. linkBy x (layerAs y x) m) by-kind (y .kind) κ where
   by-kind : (x : Kind) → linkBy (bare x) (layerAs y (bare x)) m ≡ linkBy x (layerAs y x) m
-  by-kind (Convolution c) = refl
-  by-kind (Fully f) = refl
-  by-kind (Addition a) = refl
+  by-kind (Conv c) = refl
+  by-kind (Full f) = refl
+  by-kind (Add a) = refl
 
 -- a network is like the one with such parameters at one layer
 pub alike-with :
@@ -68,7 +68,7 @@ rewrittenFile s k r = pasted s (layerOf (decodeOf s .network) k .start) r
 
 -- what a replacement that passes leaves of the network of the file s
 pub record Exchanged (s : List ℕ) (k : ℕ) (r : List ℕ) (n′ : Network) : Type 0 where
-  pub refusal : decodeOf (rewrittenFile s k r) .refusal ≡ 0
+  pub fault : decodeOf (rewrittenFile s k r) .fault ≡ 0
   pub alike : Alike (decodeOf s .network) n′
   pub head : n′ .zero ≡ decodeOf s .network .zero
   pub layer : layerOf n′ k ≡ layerAs (layerOf (decodeOf s .network) k) (kindAt (layerOf (decodeOf s .network) k .mark) r 0)
@@ -79,7 +79,7 @@ module _
     (s : List ℕ)
     (k : ℕ)
     (r : List ℕ)
-    (good : decodeOf s .refusal ≡ 0)
+    (good : decodeOf s .fault ≡ 0)
     (few : k < decodeOf s .network .count)
     (fault : replaceFault s (layerOf (decodeOf s .network) k) r ≡ 0) where
   -- the new record is as long as the old one, and its parameters are kindred
@@ -94,7 +94,7 @@ module _
   -- the file with it is taken, and its network has other parameters at layer k
   read-again :
       decodeOf (rewrittenFile s k r) ≡
-      record { refusal = 0; network = withKind (decodeOf s .network) k (kindAt (layerOf (decodeOf s .network) k .mark) r 0) }
+      record { fault = 0; network = withKind (decodeOf s .network) k (kindAt (layerOf (decodeOf s .network) k .mark) r 0) }
   unfolding pasted
   read-again = replaced-decodes s k r good few fault
 
@@ -120,7 +120,7 @@ module _
       let sixteen : k < length (n .layers) = omega (arith, taken s good .sixteen, taken s good .count-few) in
       subst⁻¹ (Exchanged s k r) e
       (record {
-        refusal = ap (λ (d : Decoded). d .refusal) read-again;
+        fault = ap (λ (d : Decoded). d .fault) read-again;
         alike = alike-with n k κ sixteen nine-kindred;
         head = refl;
         layer = with-here n k κ sixteen;

@@ -11,8 +11,8 @@ use Rattle.network.specs.Network.{tensorOf}
 use Rattle.network.specs.Decode.{decodeOf}
 use Rattle.network.specs.Taken.{Taken}
 use Rattle.network.specs.declared.net.Network.{Network}
-use Rattle.windows.specs.Lists.{joined}
-use Rattle.windows.proofs.Pasted.{pasted-nil}
+use Rattle.lists.specs.Lists.{joined}
+use Rattle.lists.proofs.Pasted.{pasted-nil}
 use Rattle.bands.specs.Band.{none, cover}
 use Rattle.bands.specs.State.{bandOf, clean}
 use Rattle.bands.specs.Grow.{grownBand, growOne, grown}
@@ -22,8 +22,8 @@ use Rattle.bands.proofs.States.{with-each, clean-none}
 use Rattle.checks.specs.Tensors.{tensorsOf, linkOf}
 use Rattle.checks.proofs.Links.{link-ok}
 use Rattle.checks.proofs.Passed.{CallPassed, call-passed}
-use Rattle.runs.specs.Run.{redone, updatedTo, countTo}
-use Rattle.runs.proofs.Counts.{bytes-in}
+use Rattle.updates.specs.Recompute.{redone, updatedTo, countTo}
+use Rattle.updates.proofs.Counts.{bytes-in}
 use Rattle.clew.specs.Calls.{updateOf}
 use Rattle.facts.specs.Demand3.{CleanUpdates}
 use Rattle.facts.proofs.Exact.{update-passed}

@@ -1,7 +1,7 @@
 -- Demand 2: with true weight sums each row is the direct one, no total leaves signed 32 bits, and how far a rescaled number is from the exact
 -- product.
 -- Assumes nothing.
-use Prim.Native.Nat.{ℕ, _+_, _*_, _^_, _≤_, _<_}
+use Prim.Native.Nat.{ℕ, _+_, _^_, _≤_, _<_}
 use mathlib.Core.Path.{_≡_, refl, sym, _∙_, ap}
 use mathlib.Core.List.{List, [], _∷_}
 use native.Mathlib.Nat.{mul-le-mul-right}
@@ -16,22 +16,23 @@ use Rattle.numbers.proofs.Added.{offset-small, sum-small}
 use Rattle.fields.specs.Shape.{bytesOf}
 use Rattle.records.specs.Layer.{sumsOf, termsOf, weightsAt}
 use Rattle.records.specs.declared.layer.Kind.{Kind}
-use Rattle.records.specs.declared.layer.Kind.the-variants.{Convolution, Fully, Addition}
-use Rattle.records.specs.declared.conv.Conv.{Conv}
+use Rattle.records.specs.declared.layer.Kind.the-variants.{Conv, Full, Add}
+use Rattle.records.specs.declared.conv.Conv.{Conv as ConvParams}
 use Rattle.records.specs.declared.layer.Layer.{Layer}
 use Rattle.records.specs.declared.layer.Scale.{Scale}
 use Rattle.windows.specs.Window.{windowOf}
-use Rattle.windows.proofs.Bytes.{Bytes, bytes-take, bytes-drop}
-use Rattle.windows.proofs.Pasted.{part-length, joined-same}
+use Rattle.lists.proofs.Bytes.{Bytes, bytes-take, bytes-drop}
+use Rattle.lists.proofs.Pasted.{part-length, joined-same}
 use Rattle.windows.proofs.Windows.{window-length, window-bytes}
 use Rattle.network.specs.Network.{layerOf, tensorOf, placeOf, zeroOf}
 use Rattle.network.specs.Decode.{decodeOf}
 use Rattle.network.specs.declared.net.Network.{Network}
 use Rattle.network.proofs.Bounds.{ByteZeros, kind-zeros, zeros-few}
-use Rattle.layers.specs.Outputs.{weightsOf, outputsOf, OutputsReady}
+use Rattle.layers.specs.Outputs.{weightsOf, outputsOf}
+use Rattle.layers.specs.Asked.{OutputsReady, KindReady, Ready}
 use Rattle.layers.specs.Conv.{windowFor, convOutputs, convRow}
 use Rattle.layers.specs.Full.{fullOutputs}
-use Rattle.layers.specs.Row.{tensorAt, rowBy, KindReady, Ready}
+use Rattle.layers.specs.Row.{tensorAt, rowBy}
 use Rattle.layers.specs.declared.outputs.Outputs.{Outputs}
 use Rattle.layers.proofs.Convs.{size-is}
 use Rattle.layers.proofs.Direct.{output-direct, sum-true, total-within}
@@ -40,8 +41,8 @@ use Rattle.bands.specs.declared.state.State.{State}
 use Rattle.checks.specs.Tensors.{linkOf}
 use Rattle.checks.specs.Tests.{callFault}
 use Rattle.checks.proofs.Links.{link-ok}
-use Rattle.runs.specs.Run.{CanRun}
-use Rattle.runs.proofs.Ready.{layer-ready}
+use Rattle.updates.specs.Asked.{CanRecompute}
+use Rattle.updates.proofs.Ready.{layer-ready}
 use Rattle.clew.proofs.Entered.{entered}
 use Rattle.facts.specs.Demand2.{directOutputs, directBy, DirectRows, TotalsBy, TotalsFit, Distances}
 
@@ -60,9 +61,9 @@ outputs-direct o file sums q n e r s =
 
 -- the window of a convolution, over a tensor of its input's size
 conv-window :
-    (y : Layer) (c : Conv) (z : ℕ) (t : List ℕ) (i j : ℕ)
+    (y : Layer) (c : ConvParams) (z : ℕ) (t : List ℕ) (i j : ℕ)
     → length t ≡ bytesOf (y .input)
-    → length (windowOf (windowFor (y .input) (c .frame) z) t i j) ≡ termsOf (Convolution c) (y .input)
+    → length (windowOf (windowFor (y .input) (c .frame) z) t i j) ≡ termsOf (Conv c) (y .input)
 conv-window y c z t i j e = window-length (windowFor (y .input) (c .frame) z) t i j (e ∙ sym (size-is y c z refl))
 
 -- a row of a layer that is ready, from a tensor of its input's size
@@ -73,12 +74,12 @@ direct-by :
     → ((f : ℕ) → f < sumsOf k → getD sums (y .sums + f) 0 ≡ sum (weightsOf file (weightsAt y) (termsOf k (y .input)) f))
     → rowBy k y z z′ file sums t t′ i ≡ directBy k y z z′ file t t′ i
 unfolding convRow
-direct-by (Convolution c) y z z′ file sums t t′ i r e s =
+direct-by (Conv c) y z z′ file sums t t′ i r e s =
     joined-same (y .output .columns) (λ j h.
     outputs-direct (convOutputs y c z) file sums _ _ (conv-window y c z t _ _ e) (ready-any (convOutputs y c 0) z _ (r .outputs)) s)
-direct-by (Fully f) y z z′ file sums t t′ i r e s =
+direct-by (Full f) y z z′ file sums t t′ i r e s =
     outputs-direct (fullOutputs y f z) file sums t _ e (ready-any (fullOutputs y f 0) z _ (r .outputs)) s
-direct-by (Addition a) y z z′ file sums t t′ i r e s = refl
+direct-by (Add a) y z z′ file sums t t′ i r e s = refl
 
 -- what an add works with, before it is rescaled
 scaled-small : (q z : ℕ) → q ≤ 255 → z ≤ 255 → natAbs ((pos q -ℤ pos z) *ℤ pos (2 ^ 20)) ≤ 2 ^ 28
@@ -99,12 +100,12 @@ totals-by :
     → z ≤ 255
     → z′ ≤ 255
     → TotalsBy k y z z′ file sums t
-totals-by (Convolution c) y z z′ file sums t zeros r bf bt e hz hz′ = λ i j f h.
+totals-by (Conv c) y z z′ file sums t zeros r bf bt e hz hz′ = λ i j f h.
     total-within (convOutputs y c z) file sums (windowOf (windowFor (y .input) (c .frame) z) t i j) _ f (ready-any (convOutputs y c 0) z _ (r .outputs)) h
     (conv-window y c z t i j e) (window-bytes (windowFor (y .input) (c .frame) z) t i j bt hz) bf hz (zeros .0)
-totals-by (Fully g) y z z′ file sums t zeros r bf bt e hz hz′ = λ f h.
+totals-by (Full g) y z z′ file sums t zeros r bf bt e hz hz′ = λ f h.
     total-within (fullOutputs y g z) file sums t _ f (ready-any (fullOutputs y g 0) z _ (r .outputs)) h e bt bf hz (zeros .0)
-totals-by (Addition a) y z z′ file sums t zeros r bf bt e hz hz′ = λ q q′ hq hq′. (
+totals-by (Add a) y z z′ file sums t zeros r bf bt e hz hz′ = λ q q′ hq hq′. (
   scaled-small q z hq hz,
   scaled-small q′ z′ hq′ hz′,
   sum-small (offset q z (a .first .multiplier) (a .first .shift)) (offset q′ z′ (a .second .multiplier) (a .second .shift))
@@ -114,24 +115,24 @@ totals-by (Addition a) y z z′ file sums t zeros r bf bt e hz hz′ = λ q q′
 
 -- ---- a call that passes tests 1 to 6, and a layer of its network
 
--- what its run rests on
-pub can-run :
+-- what recomputing rests on
+pub can-recompute :
     (file sums : List ℕ) (room : ℕ) (s : State)
     → callFault file sums room s ≡ 0
-    → CanRun file (decodeOf file .network) sums room
-can-run file sums room s p = entered file sums room s (refl, refl) p .can
+    → CanRecompute file (decodeOf file .network) sums room
+can-recompute file sums room s p = entered file sums room s (refl, refl) p .can
 
 module _ (file sums area : List ℕ) (s : State) (p : callFault file sums (length area) s ≡ 0) (m : ℕ) (h : m < decodeOf file .network .count) where
   -- the network that the file holds
   abbrev net : Network
   net = decodeOf file .network
 
-  run : CanRun file net sums (length area)
-  run = can-run file sums (length area) s p
+  can : CanRecompute file net sums (length area)
+  can = can-recompute file sums (length area) s p
 
   -- the layer is ready for its rows
   ready : Ready (layerOf net m) file sums (net .area) (placeOf net m) (placeOf net (linkOf net m .other))
-  ready = layer-ready file net sums (length area) m run h
+  ready = layer-ready file net sums (length area) m can h
 
   -- the tensor that it reads, which stands in the area whole and is of bytes where the area is
   abbrev input : List ℕ
@@ -139,8 +140,8 @@ module _ (file sums area : List ℕ) (s : State) (p : callFault file sums (lengt
 
   input-length : length input ≡ bytesOf (layerOf net m .input)
   input-length =
-      let e = ap bytesOf (run .taken .layers m h .input) in
-      part-length area (placeOf net m) (bytesOf (tensorOf net m)) (omega (arith, ready .first .input-in, run .area-in, e)) ∙ sym e
+      let e = ap bytesOf (can .taken .layers m h .input) in
+      part-length area (placeOf net m) (bytesOf (tensorOf net m)) (omega (arith, ready .first .input-in, can .area-in, e)) ∙ sym e
 
   input-bytes : Bytes area → Bytes input
   input-bytes b = bytes-take (bytesOf (tensorOf net m)) _ (bytes-drop (placeOf net m) area b)
@@ -153,7 +154,7 @@ direct-rows file sums area s p m i h true-sums =
 pub totals-fit : TotalsFit
 totals-fit file sums area s bf ba p m h =
     let n = decodeOf file .network in
-    let t = can-run file sums (length area) s p .taken in
+    let t = can-recompute file sums (length area) s p .taken in
     totals-by (layerOf n m .kind) (layerOf n m) (zeroOf n m) (zeroOf n (linkOf n m .other)) file sums _
     (kind-zeros file bf n t m h)
     (ready file sums area s p m h .kind)

@@ -11,22 +11,23 @@ use Rattle.network.specs.Network.{tensorOf}
 use Rattle.network.specs.Decode.{decodeOf}
 use Rattle.network.specs.declared.net.Network.{Network}
 use Rattle.bands.specs.declared.state.State.{State}
-use Rattle.bands.specs.History.{Ran}
-use Rattle.bands.specs.Area.{view}
-use Rattle.bands.proofs.Area.{area-ran}
+use Rattle.histories.specs.Kept.{Recomputed}
+use Rattle.histories.specs.Area.{view}
+use Rattle.histories.proofs.Area.{area-redone}
 use Rattle.checks.specs.Tests.{callFault}
-use Rattle.checks.proofs.Links.{chain-rows}
+use Rattle.facts.proofs.Chains.{chain-rows}
 use Rattle.checks.proofs.Passed.{CallPassed, call-passed}
 use Rattle.checks.proofs.Rows.{bands-fair}
-use Rattle.runs.specs.Run.{grownBandOf, updatedTo, Fair}
-use Rattle.runs.proofs.Areas.{updated-length, updated-before, updated-beyond}
-use Rattle.runs.proofs.Fairs.{Fits, grown-fair}
+use Rattle.updates.specs.Recompute.{grownBandOf, updatedTo}
+use Rattle.updates.specs.Asked.{BandsWithin}
+use Rattle.updates.proofs.Areas.{updated-length, updated-before, updated-beyond}
+use Rattle.updates.proofs.Fairs.{Fits, grown-fair}
 use Rattle.clew.specs.Calls.{updateBy, updateOf}
 use Rattle.facts.specs.Demand3.{Rewritten, ExactUpdates}
 use Rattle.facts.proofs.Model.{Present, model, layout}
 use Rattle.facts.proofs.Alike.{alike-same}
 use Rattle.facts.proofs.Laws.{model-laws, model-laid, model-room}
-use Rattle.facts.proofs.Runs.{row-is, run-over}
+use Rattle.facts.proofs.Updates.{row-is, update-over}
 
 -- an update is accepted where tests 1 to 6 pass
 pub update-passed : (file sums area : List ℕ) (s : State) → updateOf file sums area s .0 .number ≡ 0 → callFault file sums (length area) s ≡ 0
@@ -48,7 +49,7 @@ module _ (file sums : List ℕ) (k : ℕ) (s : State) (c : CallPassed file sums 
   }
 
   -- the bands lie within the tensors
-  pub passed-bands : Fair (decodeOf file .network) s
+  pub passed-bands : BandsWithin (decodeOf file .network) s
   passed-bands t h =
       let f = bands-fair file (decodeOf file .network) (c .load .taken) s (c .state) t h in
       (f .order, f .within)
@@ -64,20 +65,20 @@ module _ (file sums area : List ℕ) (s : State) (c : CallPassed file sums (leng
   abbrev next : List ℕ
   next = updatedTo n file sums s (n .count) area
 
-  abbrev fair : Fair n s
+  abbrev fair : BandsWithin n s
   fair = passed-bands file sums (length area) s c
 
   -- a grown band lies within its tensor
   grown-fits : (t : ℕ) → t ≤ n .count → Fits (tensorOf n t .rows) (grownBandOf n s t)
   grown-fits t h = grown-fair file n (c .load .taken) s t h fair t h
 
-  -- the update is a run of the model over the grown bands
-  ran : Ran (model n) p (grownBandOf n s) (view (layout n) area) (view (layout n) next)
-  ran =
+  -- the update is what the model recomputes over the grown bands
+  after : Recomputed (model n) p (grownBandOf n s) (view (layout n) area) (view (layout n) next)
+  after =
       let t = c .load .taken in
       let room = c .load .area-in in
-      rw (run-over file n t p s area fair room (grownBandOf n s) (λ u h. refl) (n .count) (omega arith)) at
-      (area-ran (model n) (layout n) (model-laws file n t) (model-laid file n t) p (grownBandOf n s) area (model-room file n t (length area) room)
+      rw (update-over file n t p s area fair room (grownBandOf n s) (λ u h. refl) (n .count) (omega arith)) at
+      (area-redone (model n) (layout n) (model-laws file n t) (model-laid file n t) p (grownBandOf n s) area (model-room file n t (length area) room)
       (λ u h i w. (omega arith, omega (arith, w, grown-fits u h, chain-rows n u))))
 
   -- exactly their rows are rewritten
@@ -89,8 +90,8 @@ module _ (file sums area : List ℕ) (s : State) (c : CallPassed file sums (leng
       record {
         size = size;
         within = λ m h. grown-fits (suc m) h .1;
-        inside = λ m i h w. ran .redone m i h (omega (arith, w, grown-fits (suc m) h, chain-rows n (suc m))) w ∙ row-is n p next m i (omega (arith, size)) h;
-        outside = λ m i h g w. ran .kept m i h (omega (arith, chain-rows n (suc m))) w;
+        inside = λ m i h w. after .redone m i h (omega (arith, w, grown-fits (suc m) h, chain-rows n (suc m))) w ∙ row-is n p next m i (omega (arith, size)) h;
+        outside = λ m i h g w. after .kept m i h (omega (arith, chain-rows n (suc m))) w;
         picture =
             updated-before file n sums t s area fair room (n .count) 0 (bytesOf (n .picture)) (omega arith)
             (omega (arith, t .layers 0 (omega (arith, t .count-some)) .place));

@@ -12,15 +12,15 @@ use Rattle.network.specs.Network.{layerOf, tensorOf, placeOf, zeroOf}
 use Rattle.network.specs.Taken.{Taken}
 use Rattle.network.specs.declared.net.Network.{Network}
 use Rattle.network.proofs.Places.{tensors-in}
-use Rattle.windows.specs.Lists.{joined, part}
-use Rattle.windows.proofs.Pasted.{part-length, joined-same, joined-part}
+use Rattle.lists.specs.Lists.{joined, part}
+use Rattle.lists.proofs.Pasted.{part-length, joined-same, joined-part}
 use Rattle.layers.specs.Row.{rowOf}
 use Rattle.layers.proofs.Local.{row-local}
 use Rattle.checks.specs.Tensors.{linkOf}
 use Rattle.checks.proofs.Links.{link-ok}
-use Rattle.runs.specs.Run.{networkSums, tensorIn, rowIn, rowFrom}
-use Rattle.runs.proofs.Fills.{network-sums-length}
-use Rattle.runs.proofs.Ready.{layer-shaped}
+use Rattle.updates.specs.Recompute.{networkSums, tensorIn, rowIn, rowFrom}
+use Rattle.updates.proofs.Fills.{network-sums-length}
+use Rattle.updates.proofs.Ready.{layer-shaped}
 use Rattle.facts.specs.Fresh.{freshLayer, freshTo}
 use Rattle.facts.proofs.Tensors.{rows-bytes}
 use Rattle.facts.proofs.Stored.{true-each}

@@ -10,31 +10,32 @@ use Rattle.fields.specs.Shape.{bytesOf, rowBytes}
 use Rattle.records.specs.Layer.{sumsOf, recordLen}
 use Rattle.fields.specs.declared.shape.Shape.{Shape}
 use Rattle.records.specs.declared.layer.Kind.{Kind}
-use Rattle.records.specs.declared.layer.Kind.the-variants.{Convolution, Fully, Addition}
+use Rattle.records.specs.declared.layer.Kind.the-variants.{Conv, Full, Add}
 use Rattle.records.specs.declared.layer.Layer.{Layer}
 use Rattle.network.specs.Network.{layerOf, tensorOf, zeroOf, zeroBy}
 use Rattle.network.specs.Taken.{Taken}
 use Rattle.network.specs.declared.net.Network.{Network}
 use Rattle.network.proofs.Places.{tensors-apart, tensors-in}
-use Rattle.windows.specs.Lists.{part}
+use Rattle.lists.specs.Lists.{part}
 use Rattle.layers.specs.Row.{rowOf}
 use Rattle.layers.proofs.Lengths.{ShapedBy, row-length}
 use Rattle.layers.proofs.Local.{seesBy, SameRows, SameRecord, SameSums, row-local}
-use Rattle.bands.specs.Windows.{Window, Looks, rowsIn, Sound}
-use Rattle.bands.specs.History.{Laws}
-use Rattle.bands.specs.Area.{Laid, Room}
-use Rattle.bands.proofs.Windows.{windowed-laws}
+use Rattle.bands.specs.Within.{Sees}
+use Rattle.histories.specs.Chain.{Looks, rowsIn, SoundChain}
+use Rattle.histories.specs.Model.{Laws}
+use Rattle.histories.specs.Area.{SideBySide, Room}
+use Rattle.histories.proofs.Chain.{windowed-laws}
 use Rattle.checks.specs.Tensors.{linkBy, linkOf}
-use Rattle.checks.proofs.Links.{chainOf, chain-rows, links-sound}
-use Rattle.runs.proofs.Ready.{layer-shaped}
+use Rattle.facts.proofs.Chains.{chainOf, chain-rows, links-sound}
+use Rattle.updates.proofs.Ready.{layer-shaped}
 use Rattle.facts.proofs.Model.{Present, netOf, fitted, tensorFrom, parOf, rowWith, model, layout}
 use Rattle.facts.proofs.Tensors.{rows-bytes, tensor-length, tensor-row}
 
 -- what a row sees stands in the window of its layer's link
-sees-window : (k : Kind) (y : Layer) (m i r : ℕ) → seesBy k y i r → Window (linkBy k y m) i r
-sees-window (Convolution c) y m i r w = w
-sees-window (Fully f) y m i r w = w
-sees-window (Addition a) y m i r w = w
+sees-window : (k : Kind) (y : Layer) (m i r : ℕ) → seesBy k y i r → Sees (linkBy k y m) i r
+sees-window (Conv c) y m i r w = w
+sees-window (Full f) y m i r w = w
+sees-window (Add a) y m i r w = w
 
 -- tensors whose rows are the same where row i sees them
 rows-seen :
@@ -70,7 +71,7 @@ module _ {n : Network} (p : Present n) (m : ℕ) (h : m < n .count) where
 
 -- a row is the same where the layer's parameters, its inputs' zero-points and the rows that it looks at are
 same-row :
-    {n : Network} → Sound (chainOf n) →
+    {n : Network} → SoundChain (chainOf n) →
     (p p′ : Present n) (S S′ : ℕ → ℕ → List ℕ) (m i : ℕ) →
     m < n .count →
     i < rowsIn (chainOf n) (suc m) →
@@ -115,7 +116,7 @@ module _ (file : List ℕ) (n : Network) (taken : Taken file n) where
       })
 
   -- the tensors stand one after another, and a layer's row has its tensor's width
-  pub model-laid : Laid (model n) (layout n)
+  pub model-laid : SideBySide (model n) (layout n)
   model-laid = record {
     after = λ t u h g. omega (arith, chain-bytes n t, tensors-apart file n taken t u h g);
     wide = λ p m i S h hi.

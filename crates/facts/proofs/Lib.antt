@@ -5,10 +5,11 @@ pub mod Settled
 pub mod Numbered
 pub mod Demand1
 pub mod Demand2
+pub mod Chains
 pub mod Model
 pub mod Tensors
 pub mod Laws
-pub mod Runs
+pub mod Updates
 pub mod Alike
 pub mod Exact
 pub mod Clean

@@ -13,13 +13,13 @@ use Rattle.network.specs.Network.{layerOf, tensorOf, placeOf, zeroOf}
 use Rattle.network.specs.Decode.{decodeOf}
 use Rattle.network.specs.Taken.{Taken}
 use Rattle.network.specs.declared.net.Network.{Network}
-use Rattle.windows.specs.Lists.{joined, part}
+use Rattle.lists.specs.Lists.{joined, part}
 use Rattle.layers.specs.Row.{rowOf}
-use Rattle.bands.specs.History.{Model}
-use Rattle.bands.specs.Windows.{windowed}
-use Rattle.bands.specs.Area.{Layout}
+use Rattle.histories.specs.Model.{Model}
+use Rattle.histories.specs.Chain.{windowed}
+use Rattle.histories.specs.Area.{Layout}
 use Rattle.checks.specs.Tensors.{linkOf}
-use Rattle.checks.proofs.Links.{chainOf}
+use Rattle.facts.proofs.Chains.{chainOf}
 
 -- two networks alike in all that a replacement leaves
 pub record Alike (n n′ : Network) : Type 0 where

@@ -14,7 +14,7 @@ use Rattle.fields.specs.Stored.{biasFaults, storedFault}
 use Rattle.fields.specs.declared.shape.Shape.{Shape}
 use Rattle.records.specs.Reader.{ownFault, suitFault, answer, readAs}
 use Rattle.records.specs.declared.layer.Kind.{Kind}
-use Rattle.records.specs.declared.layer.Kind.the-variants.{Convolution, Fully, Addition}
+use Rattle.records.specs.declared.layer.Kind.the-variants.{Conv, Full, Add}
 use Rattle.records.specs.declared.layer.Layer.{Layer}
 use Rattle.records.specs.declared.mark.Mark.{Mark}
 use Rattle.records.specs.declared.mark.Mark.the-variants.{CV, FU, AD, Other}
@@ -22,7 +22,7 @@ use Rattle.records.specs.declared.reader.Before.{Before}
 use Rattle.records.specs.declared.reader.Read.{Read}
 use Rattle.records.specs.declared.reader.Read.the-variants.{Refused, Found}
 use Rattle.network.specs.Head.{pictureAt, headMark, headFault}
-use Rattle.network.specs.Decode.{readLayer, stopped, started, startOf, pushed, stepRead, stepFrom, stepOf, runOf, endFault, decodedAs, ranOf, decodeOf}
+use Rattle.network.specs.Decode.{readLayer, stopped, started, startOf, pushed, stepRead, stepFrom, stepOf, stepsOf, endFault, decodedAs, wholeOf, decodeOf}
 use Rattle.network.specs.declared.net.Network.{Network}
 use Rattle.network.specs.declared.file.Progress.{Progress}
 
@@ -82,9 +82,9 @@ own-most Other s at = omega arith
 -- an input that does not suit it
 suit-most : (k : Kind) (b : Before) (other : Shape) → suitFault k b other ≤ 3
 unfolding IsLe suitFault
-suit-most (Convolution c) b other = search most
-suit-most (Fully f) b other = omega arith
-suit-most (Addition a) b other = search most
+suit-most (Conv c) b other = search most
+suit-most (Full f) b other = omega arith
+suit-most (Add a) b other = search most
 
 -- the next record
 layer-most : (s : List ℕ) (at : ℕ) (n : Network) (made : ℕ) → Most (readLayer s at n made)
@@ -94,41 +94,41 @@ layer-most s at n made = answer-most _ _ _ (search (most, own-most, suit-most, b
 -- ---- the file
 
 -- after the head
-start-most : (s : List ℕ) → startOf s .refusal ≤ 3
+start-most : (s : List ℕ) → startOf s .fault ≤ 3
 unfolding startOf started stopped
 start-most s = at-fault (headFault s) (head-most s) where
-  at-fault : (k : ℕ) → k ≤ 3 → started k (pictureAt s) (byteAt s 7) (byteAt s 8) .refusal ≤ 3
+  at-fault : (k : ℕ) → k ≤ 3 → started k (pictureAt s) (byteAt s 7) (byteAt s 8) .fault ≤ 3
   at-fault zero h = h
   at-fault (suc k) h = h
 
 -- after one more layer
-step-most : (s : List ℕ) (p : Progress) → p .refusal ≤ 3 → stepOf s p .refusal ≤ 3
+step-most : (s : List ℕ) (p : Progress) → p .fault ≤ 3 → stepOf s p .fault ≤ 3
 unfolding stepOf stopped pushed
-step-most s p h = from (p .refusal) where
-  after : (r : Read) → Most r → stepRead p r .refusal ≤ 3
+step-most s p h = from (p .fault) where
+  after : (r : Read) → Most r → stepRead p r .fault ≤ 3
   after (Refused k) g = g
   after (Found y next) g = g
 
-  from : (k : ℕ) → stepFrom k s p .refusal ≤ 3
+  from : (k : ℕ) → stepFrom k s p .fault ≤ 3
   from zero = after (readLayer s (p .at) (p .network) (p .made)) (layer-most s _ _ _)
   from (suc k) = h
 
 -- after n layers more
-run-most : (s : List ℕ) (n : ℕ) (p : Progress) → p .refusal ≤ 3 → runOf s n p .refusal ≤ 3
-unfolding runOf
-run-most s zero p h = h
-run-most s (suc n) p h = run-most s n (stepOf s p) (step-most s p h)
+steps-most : (s : List ℕ) (n : ℕ) (p : Progress) → p .fault ≤ 3 → stepsOf s n p .fault ≤ 3
+unfolding stepsOf
+steps-most s zero p h = h
+steps-most s (suc n) p h = steps-most s n (stepOf s p) (step-most s p h)
 
 -- what is decoded
-decoded-most : (k : ℕ) (p : Progress) → k ≤ 3 → decodedAs k p .refusal ≤ 3
+decoded-most : (k : ℕ) (p : Progress) → k ≤ 3 → decodedAs k p .fault ≤ 3
 unfolding decodedAs
 decoded-most zero p h = omega arith
 decoded-most (suc k) p h = h
 
 -- tests 1 to 3 of any file
-pub file-most : (s : List ℕ) → decodeOf s .refusal ≤ 3
+pub file-most : (s : List ℕ) → decodeOf s .fault ≤ 3
 unfolding decodeOf
 file-most s = by-length (leb (length s) 65536) where
-  by-length : (b : Bool) → cond b (ranOf s (startOf s)) (decodedAs 3 (stopped 3)) .refusal ≤ 3
-  by-length true = decoded-most _ _ (first-most (run-most s _ (startOf s) (start-most s)) (end-most s _))
+  by-length : (b : Bool) → cond b (wholeOf s (startOf s)) (decodedAs 3 (stopped 3)) .fault ≤ 3
+  by-length true = decoded-most _ _ (first-most (steps-most s _ (startOf s) (start-most s)) (end-most s _))
   by-length false = decoded-most 3 _ (omega arith)

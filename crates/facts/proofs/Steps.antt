@@ -17,38 +17,38 @@ use Rattle.network.specs.Replace.{replaceFault}
 use Rattle.network.specs.Taken.{Taken}
 use Rattle.network.specs.declared.net.Network.{Network}
 use Rattle.network.proofs.Taken.{taken}
-use Rattle.windows.specs.Lists.{pasted, part}
-use Rattle.windows.proofs.Pasted.{pasted-length}
+use Rattle.lists.specs.Lists.{pasted, part}
+use Rattle.lists.proofs.Pasted.{pasted-length, ones-length}
 use Rattle.layers.proofs.Local.{SameRecord, SameSums}
 use Rattle.bands.specs.declared.state.State.{State}
 use Rattle.bands.specs.Band.{none}
 use Rattle.bands.specs.State.{bandOf, loaded}
-use Rattle.bands.specs.History.{Laws, grownOf, Kept}
-use Rattle.bands.specs.Area.{place, Laid, runArea}
-use Rattle.bands.specs.Calls.{Held, Tells, Fit}
-use Rattle.bands.proofs.Table.{length-table}
-use Rattle.bands.proofs.Calls.{sys, passed-within, loaded-keeps, replacing-keeps, changing-keeps, updating-keeps}
-use Rattle.bands.proofs.Area.{length-run}
+use Rattle.histories.specs.Model.{Laws}
+use Rattle.histories.specs.Kept.{grownOf, Kept}
+use Rattle.histories.specs.Area.{rowPlace, SideBySide, redoArea}
+use Rattle.histories.specs.Calls.{AreaSys, Tells, Fit}
+use Rattle.histories.proofs.Calls.{sys, passed-within, loaded-keeps, replacing-keeps, changing-keeps, updating-keeps}
+use Rattle.histories.proofs.Area.{sets-pasted, length-redo}
 use Rattle.checks.specs.Tensors.{tensorsOf}
 use Rattle.checks.specs.Tests.{callFault, rowsFault, layerFault, sliceFault, staleFault}
-use Rattle.checks.proofs.Numbers.{rows-at}
-use Rattle.checks.proofs.Links.{chain-rows}
+use Rattle.checks.proofs.Rows.{rows-at}
+use Rattle.facts.proofs.Chains.{chain-rows}
 use Rattle.checks.proofs.Passed.{LoadPassed, CallPassed, call-passed, rows-passed, layer-passed}
-use Rattle.runs.specs.Run.{networkSums, grownBandOf}
-use Rattle.runs.proofs.Fills.{network-sums-length}
+use Rattle.updates.specs.Recompute.{networkSums, grownBandOf}
+use Rattle.updates.proofs.Fills.{network-sums-length}
 use Rattle.clew.specs.Calls.{loadBy, changeOf, changeBy, replaceOf, replaceBy, updateOf, updateBy, readOf, readBy}
 use Rattle.facts.specs.History.{System, networkOf, afterLoad, withArea, withFile, withState, Call, after, RowsKept, Keeps, Reached}
 use Rattle.facts.specs.History.Call.{change, replace, update, read}
 use Rattle.facts.specs.History.Reached.{begin, then, written}
 use Rattle.facts.proofs.Model.{Alike, Present, netOf, parOf, model, layout}
 use Rattle.facts.proofs.Laws.{model-laws, model-laid, model-room}
-use Rattle.facts.proofs.Runs.{sets-pasted, row-is, grown-alike, model-grown, run-over}
+use Rattle.facts.proofs.Updates.{row-is, grown-alike, model-grown, update-over}
 use Rattle.facts.proofs.Alike.{alike-same, rewrittenFile, nine-kindred, exchanged}
 use Rattle.facts.proofs.Exact.{passed-bands}
 use Rattle.facts.proofs.Stored.{true-each, true-all, true-filled, others-kept, refilled-length, true-again}
 
 -- a system as the bands' calls hold it
-abbrev heldOf : (n : Network) (s : System) → Taken (s .file) (networkOf s) → Alike n (networkOf s) → Held (model n) (layout n)
+abbrev heldOf : (n : Network) (s : System) → Taken (s .file) (networkOf s) → Alike n (networkOf s) → AreaSys (model n) (layout n)
 heldOf n s t a = record { net = record { file = s .file; sums = s .sums; taken = t; alike = a }; area = s .area; state = s .state }
 
 -- the fault of tests 1 to 6
@@ -124,13 +124,13 @@ module _ (s : System) (k : Keeps s) where
   abbrev begun : Taken (s .file) n
   begun = taken (s .file) (k .taken)
 
-  abbrev held : Held (model n) (layout n)
+  abbrev held : AreaSys (model n) (layout n)
   held = heldOf n s begun (alike-same n)
 
   abbrev law : Laws (model n)
   law = model-laws (s .file) n begun
 
-  abbrev laid : Laid (model n) (layout n)
+  abbrev laid : SideBySide (model n) (layout n)
   laid = model-laid (s .file) n begun
 
   -- the model keeps what the system does
@@ -162,7 +162,7 @@ module _ (s : System) (k : Keeps s) where
       let s′ = withArea s (changeBy 0 n (s .area) (s .state) from count rows) in
       let fits : from * w + length rows ≤ length (s .area) =
       omega (arith, q .2, mul-le-mul-right w (q .1), model-room (s .file) n begun (length (s .area)) (k .area-in) 0 (omega arith)) in
-      let area : pasted (s .area) (from * w) rows ≡ sets (s .area) (place (layout n) 0 from) rows =
+      let area : pasted (s .area) (from * w) rows ≡ sets (s .area) (rowPlace (layout n) 0 from) rows =
       sym (sets-pasted (s .area) (from * w) rows fits) ∙ ap (λ (i : ℕ). sets (s .area) i rows) (sym (zero-add (from * w))) in
       let room : n .area ≤ length (s′ .area) = omega (arith, k .area-in, pasted-length (s .area) (from * w) rows fits) in
       let bands : length (s′ .state .bands) ≡ 17 = length-set (s .state .bands) 0 _ ∙ k .bands in
@@ -192,12 +192,12 @@ module _ (s : System) (k : Keeps s) where
       let grown = grownOf (model n) (bandOf (s .state)) in
       let s′ = withArea s (updateBy 0 n (s .file) (s .sums) (s .area) (s .state)) in
       let fair = passed-bands (s .file) (s .sums) (length (s .area)) (s .state) c in
-      let area : s′ .area ≡ runArea (model n) (layout n) (held .net) grown (n .count) (s .area) =
+      let area : s′ .area ≡ redoArea (model n) (layout n) (held .net) grown (n .count) (s .area) =
       sym
-      (run-over (s .file) n begun (held .net) (s .state) (s .area) fair (k .area-in) grown
+      (update-over (s .file) n begun (held .net) (s .state) (s .area) fair (k .area-in) grown
       (λ t h. model-grown n (s .state) t (omega (arith, k .bands, begun .count-few)) h) (n .count) (omega arith)) in
       let room : n .area ≤ length (s′ .area) =
-      omega (arith, k .area-in, ap length area, length-run (model n) (layout n) (held .net) grown (n .count) (s .area)) in
+      omega (arith, k .area-in, ap length area, length-redo (model n) (layout n) (held .net) grown (n .count) (s .area)) in
       let bands : length (s′ .state .bands) ≡ 17 = length-replicate 17 none in
       record {
         taken = k .taken;
@@ -223,12 +223,12 @@ module _ (s : System) (k : Keeps s) where
       let x = exchanged (s .file) m r (k .taken) few nine in
       let s′ = withFile s (replaceBy 0 (layerOf n m) (s .file) (s .sums) (s .state) j r) in
       let file = rewrittenFile (s .file) m r in
-      let anew = taken file (x .refusal) in
+      let anew = taken file (x .fault) in
       let held′ = heldOf n s′ anew (x .alike) in
       let room : networkOf s′ .area ≤ length (s .area) = omega (arith, k .area-in, x .alike .area) in
       let bands : length (s′ .state .bands) ≡ 17 = length-set (s .state .bands) j _ ∙ k .bands in
       record {
-        taken = x .refusal;
+        taken = x .fault;
         store-in = omega (arith, k .store-in, refilled-length (s .file) n begun m few file (s .sums) (k .store-in), x .alike .store);
         area-in = room;
         bands = bands;
@@ -340,13 +340,13 @@ unfolding loaded
 keeps-load file sums area p =
     let n = decodeOf file .network in
     record {
-      taken = p .refusal;
+      taken = p .fault;
       store-in =
           omega (arith, p .store-in, pasted-length sums 0 (networkSums n file) (omega (arith, p .store-in, network-sums-length file n (p .taken))));
       area-in = p .area-in;
-      bands = length-table _ 17;
+      bands = ones-length 17 _;
       sums = true-filled file n (p .taken) sums;
-      rows = loaded-rows (afterLoad file area (loadBy 0 n file sums)) (p .taken) (p .area-in) (length-table _ 17) refl;
+      rows = loaded-rows (afterLoad file area (loadBy 0 n file sums)) (p .taken) (p .area-in) (ones-length 17 _) refl;
     }
 
 -- every history keeps what it began from

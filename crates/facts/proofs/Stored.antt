@@ -19,13 +19,13 @@ use Rattle.network.specs.declared.net.Network.{Network}
 use Rattle.network.proofs.Places.{sums-apart, sums-in}
 use Rattle.records.specs.Reader.{kindAt}
 use Rattle.network.proofs.Kindred.{layerAs, Kindred, kindred-sums, kindred-terms}
-use Rattle.windows.specs.Lists.{pasted, joined, part}
-use Rattle.windows.proofs.Pasted.{part-part, part-pasted, pasted-length, part-before, part-after}
+use Rattle.lists.specs.Lists.{pasted, joined, part}
+use Rattle.lists.proofs.Pasted.{part-part, part-pasted, pasted-length, part-before, part-after}
 use Rattle.layers.specs.Sums.{layerSums}
 use Rattle.layers.proofs.Local.{SameSums, sums-local}
 use Rattle.layers.proofs.Lengths.{sums-length}
-use Rattle.runs.specs.Run.{networkSums}
-use Rattle.runs.proofs.Fills.{sumsTo, sums-begin, network-sums-length}
+use Rattle.updates.specs.Recompute.{networkSums}
+use Rattle.updates.proofs.Fills.{sumsTo, sums-begin, network-sums-length}
 use Rattle.facts.specs.Demand2.{TrueSums}
 use Rattle.facts.proofs.Tensors.{piece}
 use Rattle.facts.proofs.Alike.{rewrittenFile, Exchanged}

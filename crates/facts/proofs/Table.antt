@@ -9,29 +9,28 @@ use Rattle.fields.specs.Stored.{biasFaults, storedLen, storedFault}
 use Rattle.records.specs.Reader.{ownFault, suitFault, answer, readAs}
 use Rattle.records.specs.Frame.{fits, frameOutput}
 use Rattle.network.specs.Head.{pictureAt, headMark, headFault}
-use Rattle.network.specs.Decode.{readLayer, stopped, started, startOf, pushed, stepOf, runOf, endFault, decodedAs, decodeOf}
-use Rattle.windows.specs.Lists.{pasted, joined}
+use Rattle.network.specs.Decode.{readLayer, stopped, started, startOf, pushed, stepOf, stepsOf, endFault, decodedAs, decodeOf}
+use Rattle.lists.specs.Lists.{pasted, joined}
 use Rattle.windows.specs.Window.{cellOf, stripOf, windowOf}
 use Rattle.layers.specs.Outputs.{outputOf, outputsOf}
 use Rattle.layers.specs.Conv.{convRow}
 use Rattle.layers.specs.Add.{addByte}
 use Rattle.layers.specs.Sums.{layerSums}
-use Rattle.bands.specs.Choice.{every, some}
+use Rattle.lists.specs.Choice.{every, some}
 use Rattle.bands.specs.Band.{cover, span}
 use Rattle.bands.specs.Reach.{isReached, reachedBand}
 use Rattle.bands.specs.Grow.{growOne, grown}
-use Rattle.bands.specs.State.{stateFault, table as bandTable, loaded}
-use Rattle.checks.specs.Tensors.{numbers}
+use Rattle.bands.specs.State.{stateFault, loaded}
 use Rattle.checks.specs.Tests.{roomFault, layerSumsFit, sumsFault, loadFault, callFault, rowsFault}
-use Rattle.runs.specs.Run.{redone, updatedTo, bytesIn, countTo}
+use Rattle.updates.specs.Recompute.{redone, updatedTo, bytesIn, countTo}
 use Rattle.clew.specs.Calls.{loadOf, changeOf, updateOf}
 use Rattle.facts.specs.Table.{Table}
 
 pub table : Table
 unfolding signed first within biasFault clampFault paddingFault spareFault cutFault isMark markAt bytesOf sizeFault biasFaults storedLen
     storedFault fits frameOutput ownFault suitFault answer readAs pictureAt headMark headFault readLayer stopped started startOf pushed stepOf
-    runOf endFault decodedAs decodeOf pasted joined cellOf stripOf windowOf outputOf outputsOf convRow addByte layerSums every some cover span
-    isReached reachedBand growOne grown stateFault bandTable loaded numbers roomFault layerSumsFit sumsFault loadFault callFault rowsFault
+    stepsOf endFault decodedAs decodeOf pasted joined cellOf stripOf windowOf outputOf outputsOf convRow addByte layerSums every some cover span
+    isReached reachedBand growOne grown stateFault loaded roomFault layerSumsFit sumsFault loadFault callFault rowsFault
     redone updatedTo bytesIn countTo loadOf changeOf updateOf
 table = record {
   P1 = refl;

@@ -8,8 +8,8 @@ use lib.ListN.{length, replicate, length-append, length-take, length-replicate}
 use lib.Seq.{take-at, drop-at}
 use Rattle.fields.specs.Shape.{bytesOf, rowBytes}
 use Rattle.fields.specs.declared.shape.Shape.{Shape}
-use Rattle.windows.specs.Lists.{joined, part}
-use Rattle.windows.proofs.Pasted.{part-length, joined-length, joined-add, joined-part}
+use Rattle.lists.specs.Lists.{joined, part}
+use Rattle.lists.proofs.Pasted.{part-length, joined-length, joined-add, joined-part}
 use Rattle.layers.specs.Row.{tensorAt}
 use Rattle.layers.proofs.Local.{rowPart}
 use Rattle.layers.proofs.Rows.{row-in}
@@ -28,8 +28,8 @@ piece f n m h =
     )
 
 -- part r of parts of one length
-joined-at : (m k : ℕ) (f : ℕ → List ℕ) → ((i : ℕ) → length (f i) ≡ k) → (r : ℕ) → r < m → part (joined m f) (r * k) k ≡ f r
-joined-at m k f h r g = ap₂ (part (joined m f)) (sym (joined-length r k f h)) (sym (h r)) ∙ piece f m r g
+joined-row : (m k : ℕ) (f : ℕ → List ℕ) → ((i : ℕ) → length (f i) ≡ k) → (r : ℕ) → r < m → part (joined m f) (r * k) k ≡ f r
+joined-row m k f h r g = ap₂ (part (joined m f)) (sym (joined-length r k f h)) (sym (h r)) ∙ piece f m r g
 
 -- a row made to fit has the width
 fitted-length : (w : ℕ) (l : List ℕ) → length (fitted w l) ≡ w
@@ -51,7 +51,7 @@ module _ (x : Shape) where
 
   -- and each row in its place
   pub tensor-row : (rows : ℕ → List ℕ) (r : ℕ) → r < x .rows → rowPart (tensorFrom x rows) r x ≡ fitted (rowBytes x) (rows r)
-  tensor-row rows r h = joined-at (x .rows) (rowBytes x) (λ i. fitted (rowBytes x) (rows i)) (λ i. fitted-length (rowBytes x) (rows i)) r h
+  tensor-row rows r h = joined-row (x .rows) (rowBytes x) (λ i. fitted (rowBytes x) (rows i)) (λ i. fitted-length (rowBytes x) (rows i)) r h
 
   -- the rows of a tensor that stands in an area make that tensor
   pub tensor-there :

@@ -4,7 +4,7 @@
 use Prim.Native.Nat.{ℕ, _-_, _≤_}
 use mathlib.Core.Path.{_≡_}
 use mathlib.Core.Logic.{_≢_, _⊎_}
-use mathlib.Core.List.{List, [], _∷_}
+use mathlib.Core.List.{List, [], _∷_, _++_}
 use lib.ListN.{length}
 use Rattle.fields.specs.Faults.{firstFault}
 use Rattle.network.specs.Network.{layerOf}
@@ -14,7 +14,7 @@ use Rattle.network.specs.declared.net.Network.{Network}
 use Rattle.bands.specs.State.{allStale, stateFault}
 use Rattle.bands.specs.declared.state.State.{State}
 use Rattle.checks.specs.Tensors.{tensorsOf}
-use Rattle.checks.specs.Tests.{roomFault, sumsFault, rowsFault, layerFault, sliceFault, staleFault}
+use Rattle.checks.specs.Tests.{callTests, roomFault, sumsFault, rowsFault, layerFault, sliceFault, staleFault}
 use Rattle.clew.specs.Calls.{outcome, loadOf, changeOf, replaceOf, updateOf, readOf}
 use Rattle.clew.specs.declared.outcome.Outcome.{Outcome}
 
@@ -31,34 +31,29 @@ pub record RefusalsChangeNothing : Type 0 where
   pub update : (file sums area : List ℕ) (s : State) → Refusal (updateOf file sums area s) s area
   pub read : (file sums area : List ℕ) (s : State) (out : List ℕ) → Refusal (readOf file sums area s out) s out
 
--- the faults of tests 1 to 3, 4, 5 and 6, in that order
-abbrev pub oneToSix : List ℕ → List ℕ → List ℕ → State → List ℕ → ℕ
-oneToSix file sums area s more = firstFault (
-    decodeOf file .refusal ∷
-    roomFault (decodeOf file .network) (length sums) (length area) ∷
-    stateFault s (tensorsOf (decodeOf file .network)) ∷
-    sumsFault (decodeOf file .network) sums ∷
-    more)
+-- tests 1 to 6 and a call's own
+abbrev pub testsWith : List ℕ → List ℕ → List ℕ → State → List ℕ → ℕ
+testsWith file sums area s own = firstFault (callTests file sums (length area) s ++ own)
 
 -- the number is the first fault of the call's tests, in the table's order
 pub record TestsInOrder : Type 0 where
   pub load : (file sums area : List ℕ)
-      → loadOf file sums area .0 .number ≡ firstFault (decodeOf file .refusal ∷ roomFault (decodeOf file .network) (length sums) (length area) ∷ [])
+      → loadOf file sums area .0 .number ≡ firstFault (decodeOf file .fault ∷ roomFault (decodeOf file .network) (length sums) (length area) ∷ [])
   pub change : (file sums area : List ℕ) (s : State) (first count : ℕ) (rows : List ℕ)
-      → changeOf file sums area s first count rows .0 .number ≡ oneToSix file sums area s (rowsFault (decodeOf file .network) first count (length rows) ∷ [])
+      → changeOf file sums area s first count rows .0 .number ≡ testsWith file sums area s (rowsFault (decodeOf file .network) first count (length rows) ∷ [])
   pub replace : (file sums area : List ℕ) (s : State) (k : ℕ) (r : List ℕ)
       → replaceOf file sums area s k r .0 .number
-      ≡ oneToSix file sums area s (layerFault (decodeOf file .network) k ∷ replaceFault file (layerOf (decodeOf file .network) (k - 1)) r ∷ [])
-  pub update : (file sums area : List ℕ) (s : State) → updateOf file sums area s .0 .number ≡ oneToSix file sums area s []
+      ≡ testsWith file sums area s (layerFault (decodeOf file .network) k ∷ replaceFault file (layerOf (decodeOf file .network) (k - 1)) r ∷ [])
+  pub update : (file sums area : List ℕ) (s : State) → updateOf file sums area s .0 .number ≡ testsWith file sums area s []
   pub read : (file sums area : List ℕ) (s : State) (out : List ℕ)
-      → readOf file sums area s out .0 .number ≡ oneToSix file sums area s (sliceFault (decodeOf file .network) (length out) ∷ staleFault s ∷ [])
+      → readOf file sums area s out .0 .number ≡ testsWith file sums area s (sliceFault (decodeOf file .network) (length out) ∷ staleFault s ∷ [])
 
 -- a test finds no fault, or gives its own number
 abbrev pub Gives : ℕ → ℕ → Type 0
 Gives k fault = (fault ≡ 0) ⊎ (fault ≡ k)
 
 pub record OwnNumbers : Type 0 where
-  pub file : (file : List ℕ) → decodeOf file .refusal ≤ 3
+  pub file : (file : List ℕ) → decodeOf file .fault ≤ 3
   pub room : (n : Network) (sums area : ℕ) → Gives 4 (roomFault n sums area)
   pub state : (s : State) (n : Network) → Gives 5 (stateFault s (tensorsOf n))
   pub sums : (n : Network) (sums : List ℕ) → Gives 6 (sumsFault n sums)

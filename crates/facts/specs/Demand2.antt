@@ -8,20 +8,19 @@ use lib.IntN.{ℤ, pos, natAbs, _+ℤ_, _-ℤ_, _*ℤ_}
 use lib.ListN.{length, getD}
 use Rattle.numbers.specs.Total.{centred}
 use Rattle.numbers.specs.Rescale.{rescaled, slack}
-use Rattle.numbers.specs.Finish.{finished}
 use Rattle.numbers.specs.Addition.{offset}
-use Rattle.windows.specs.Lists.{joined, part}
+use Rattle.lists.specs.Lists.{joined, part}
 use Rattle.windows.specs.Window.{windowOf}
 use Rattle.fields.specs.Bytes.{i32At}
 use Rattle.fields.specs.Shape.{rowBytes}
 use Rattle.records.specs.Layer.{sumsOf}
 use Rattle.records.specs.declared.layer.Kind.{Kind}
-use Rattle.records.specs.declared.layer.Kind.the-variants.{Convolution, Fully, Addition}
+use Rattle.records.specs.declared.layer.Kind.the-variants.{Conv, Full, Add}
 use Rattle.records.specs.declared.layer.Layer.{Layer}
 use Rattle.network.specs.Network.{layerOf, zeroOf}
 use Rattle.network.specs.Decode.{decodeOf}
 use Rattle.network.specs.declared.net.Network.{Network}
-use Rattle.layers.specs.Outputs.{weightsOf, totalAt}
+use Rattle.layers.specs.Outputs.{weightsOf, totalAt, byteBy}
 use Rattle.layers.specs.Conv.{windowFor, convOutputs}
 use Rattle.layers.specs.Full.{fullOutputs}
 use Rattle.layers.specs.Add.{addRow}
@@ -30,24 +29,22 @@ use Rattle.layers.specs.declared.outputs.Outputs.{Outputs}
 use Rattle.bands.specs.declared.state.State.{State}
 use Rattle.checks.specs.Tensors.{linkOf}
 use Rattle.checks.specs.Tests.{callFault}
-use Rattle.runs.specs.Run.{tensorIn, rowFrom}
+use Rattle.updates.specs.Recompute.{tensorIn, rowFrom}
 
 -- output f at a window q: the direct sum of offset products plus bias, rescaled and finished. No stored sum stands in it
 abbrev pub directByte : Outputs → List ℕ → List ℕ → ℕ → ℕ
 directByte o file q f =
-    finished
-    (rescaled (i32At file (o .biases + 4 * f) +ℤ centred (o .z) (o .v) q (weightsOf file (o .weights) (length q) f)) (o .scale .multiplier) (o .scale .shift))
-    (o .zero) (o .low) (o .high)
+    byteBy (o .weighing) (i32At file (o .biases + 4 * f) +ℤ centred (o .z) (o .weighing .v) q (weightsOf file (o .weights) (length q) f))
 
 abbrev pub directOutputs : Outputs → List ℕ → List ℕ → List ℕ
 directOutputs o file q = joined (o .count) (λ f. directByte o file q f ∷ [])
 
 -- row i of a layer; an add has no weights
 abbrev pub directBy : Kind → Layer → ℕ → ℕ → List ℕ → List ℕ → List ℕ → ℕ → List ℕ
-directBy (Convolution c) y z z′ file t t′ i =
+directBy (Conv c) y z z′ file t t′ i =
     joined (y .output .columns) (λ j. directOutputs (convOutputs y c z) file (windowOf (windowFor (y .input) (c .frame) z) t (i * c .frame .stride) (j * c .frame .stride)))
-directBy (Fully f) y z z′ file t t′ i = directOutputs (fullOutputs y f z) file t
-directBy (Addition a) y z z′ file t t′ i = addRow a z z′ (rowBytes (y .output)) t t′ i
+directBy (Full f) y z z′ file t t′ i = directOutputs (fullOutputs y f z) file t
+directBy (Add a) y z z′ file t t′ i = addRow a z z′ (rowBytes (y .output)) t t′ i
 
 -- row i of layer m, from the rows stored in the area
 abbrev pub directFrom : Network → List ℕ → ℕ → List ℕ → ℕ → List ℕ
@@ -71,10 +68,10 @@ AllBytes l = (i : ℕ) → getD l i 0 ≤ 255
 
 -- every total of a layer, with any sums that test 6 lets pass: of output f at any window, or of an add's bytes q and q′
 abbrev pub TotalsBy : Kind → Layer → ℕ → ℕ → List ℕ → List ℕ → List ℕ → Type 0
-TotalsBy (Convolution c) y z z′ file sums t =
+TotalsBy (Conv c) y z z′ file sums t =
     (i j f : ℕ) → f < c .filters → natAbs (totalAt (convOutputs y c z) file sums (windowOf (windowFor (y .input) (c .frame) z) t i j) f) ≤ 2139111424
-TotalsBy (Fully g) y z z′ file sums t = (f : ℕ) → f < g .outputs → natAbs (totalAt (fullOutputs y g z) file sums t f) ≤ 2139111424
-TotalsBy (Addition a) y z z′ file sums t =
+TotalsBy (Full g) y z z′ file sums t = (f : ℕ) → f < g .outputs → natAbs (totalAt (fullOutputs y g z) file sums t f) ≤ 2139111424
+TotalsBy (Add a) y z z′ file sums t =
     (q q′ : ℕ) → q ≤ 255 → q′ ≤ 255
     → (natAbs ((pos q -ℤ pos z) *ℤ pos (2 ^ 20)) ≤ 2 ^ 28)
     × (natAbs ((pos q′ -ℤ pos z′) *ℤ pos (2 ^ 20)) ≤ 2 ^ 28)

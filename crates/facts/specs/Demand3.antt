@@ -8,13 +8,13 @@ use lib.ListN.{length, drop}
 use Rattle.network.specs.Network.{tensorOf}
 use Rattle.network.specs.Decode.{decodeOf}
 use Rattle.network.specs.declared.net.Network.{Network}
-use Rattle.windows.specs.Lists.{part}
+use Rattle.lists.specs.Lists.{part}
 use Rattle.fields.specs.Shape.{bytesOf}
-use Rattle.bands.specs.Within.{In}
+use Rattle.bands.specs.Band.{In}
 use Rattle.bands.specs.State.{allEmpty, clean}
 use Rattle.bands.specs.declared.state.State.{State}
 use Rattle.checks.specs.Tests.{callFault}
-use Rattle.runs.specs.Run.{networkSums, tensorIn, rowIn, rowFrom, grownBandOf, countTo}
+use Rattle.updates.specs.Recompute.{networkSums, tensorIn, rowIn, rowFrom, grownBandOf, countTo}
 use Rattle.clew.specs.Calls.{outcome, loadOf, updateOf}
 use Rattle.facts.specs.Fresh.{freshTensor, freshReading}
 use Rattle.facts.specs.History.{System, networkOf, pictureOf, readFrom, afterLoad, Keeps, Reached}

@@ -6,8 +6,8 @@ use lib.ListN.{getD}
 use Rattle.network.specs.Network.{tensorOf}
 use Rattle.network.specs.Decode.{decodeOf}
 use Rattle.network.specs.declared.net.Network.{Network}
-use Rattle.windows.specs.Lists.{joined}
-use Rattle.runs.specs.Run.{networkSums, rowOver}
+use Rattle.lists.specs.Lists.{joined}
+use Rattle.updates.specs.Recompute.{networkSums, rowOver}
 
 -- the tensor that layer m makes of the tensors before it: every row
 abbrev pub freshLayer : Network → List ℕ → List ℕ → ℕ → List (List ℕ) → List ℕ

@@ -8,12 +8,12 @@ use lib.ListN.{length}
 use Rattle.network.specs.Network.{tensorOf}
 use Rattle.network.specs.Decode.{decodeOf}
 use Rattle.network.specs.declared.net.Network.{Network}
-use Rattle.windows.specs.Lists.{part}
-use Rattle.bands.specs.Within.{In}
+use Rattle.lists.specs.Lists.{part}
+use Rattle.bands.specs.Band.{In}
 use Rattle.bands.specs.State.{loaded}
 use Rattle.bands.specs.declared.state.State.{State}
 use Rattle.checks.specs.Tensors.{tensorsOf}
-use Rattle.runs.specs.Run.{networkSums, tensorIn, rowIn, rowFrom, grownBandOf}
+use Rattle.updates.specs.Recompute.{networkSums, tensorIn, rowIn, rowFrom, grownBandOf}
 use Rattle.clew.specs.Calls.{changeOf, replaceOf, updateOf, readOf}
 use Rattle.clew.specs.declared.outcome.Outcome.{Outcome}
 
@@ -73,7 +73,7 @@ RowsKept s = (m i : ℕ) → m < networkOf s .count → i < tensorOf (networkOf 
 -- what a history may begin from: the file is taken, the store and the area hold what it needs, there are 17 bands, the sums are the true ones,
 -- and the rows are kept
 pub record Keeps (s : System) : Type 0 where
-  pub taken : decodeOf (s .file) .refusal ≡ 0
+  pub taken : decodeOf (s .file) .fault ≡ 0
   pub store-in : networkOf s .store ≤ length (s .sums)
   pub area-in : networkOf s .area ≤ length (s .area)
   pub bands : length (s .state .bands) ≡ 17

@@ -1,6 +1,6 @@
 -- The examples P1 to P12 of document 01, as one table of statements about the definitions. proofs/Table.antt proves it by computing.
 -- Assumes nothing.
-use Prim.Native.Nat.{ℕ, _+_, _*_, _^_}
+use Prim.Native.Nat.{ℕ, _*_, _^_}
 use mathlib.Core.Path.{_≡_}
 use mathlib.Core.List.{List, [], _∷_, _++_}
 use lib.IntN.{ℤ, pos, negℤ, natAbs, _-ℤ_, _*ℤ_}
@@ -86,8 +86,8 @@ pub record Table : Type 0 where
   -- 16,384 terms, q and w all 255, Z and V 0, bias 2^30: total 2,139,111,424
   pub P10 : totalOf (pos (2 ^ 30)) (replicate 16384 255) (replicate 16384 255) (sum (replicate 16384 255)) 0 0 ≡ pos 2139111424
   -- bias 2^30 + 1: refused with 2
-  pub P11 : decodeOf (netWith 1 (1 ∷ 0 ∷ 0 ∷ 0x40 ∷ []) (replicate 9 1)) .refusal ≡ 2
+  pub P11 : decodeOf (netWith 1 (1 ∷ 0 ∷ 0 ∷ 0x40 ∷ []) (replicate 9 1)) .fault ≡ 2
   -- K less its last byte: 1. With padding 2 it is taken; padding 3: 2
-  pub P12 : (decodeOf (take 38 K) .refusal ≡ 1)
-      × (decodeOf (netWith 2 (0 ∷ 0 ∷ 0 ∷ 0 ∷ []) (replicate 9 1)) .refusal ≡ 0)
-      × (decodeOf (netWith 3 (0 ∷ 0 ∷ 0 ∷ 0 ∷ []) (replicate 9 1)) .refusal ≡ 2)
+  pub P12 : (decodeOf (take 38 K) .fault ≡ 1)
+      × (decodeOf (netWith 2 (0 ∷ 0 ∷ 0 ∷ 0 ∷ []) (replicate 9 1)) .fault ≡ 0)
+      × (decodeOf (netWith 3 (0 ∷ 0 ∷ 0 ∷ 0 ∷ []) (replicate 9 1)) .fault ≡ 2)

@@ -8,7 +8,8 @@ use native.Mathlib.Nat.{le-trans, mul-le-mul-left, mul-le-mul-right}
 use borrow.Author.Tests.{leb-true, eqb-true}
 use lib.Dec.{leb, eqb}
 use Rattle.fields.specs.Faults.{unless}
-use Rattle.fields.specs.Shape.{bytesOf, sizeFault, sameShape, GoodShape}
+use Rattle.fields.specs.Shape.{bytesOf, sizeFault, sameShape}
+use Rattle.fields.specs.Asked.{GoodShape}
 use Rattle.fields.specs.declared.shape.Shape.{Shape}
 use Rattle.fields.proofs.Tests.{cond-none, unless-none}
 

@@ -3,3 +3,4 @@ pub mod Faults
 pub mod Bytes
 pub mod Shape
 pub mod Stored
+pub mod Asked

@@ -15,6 +15,7 @@ pub fn first_of(a: u8, b: u8) -> u8
     }
 }
 
+// n bytes stand at a place.
 pub fn cut_fault(s: &[u8], at: usize, n: usize) -> u8
     requires { ⌜ at ≤ length (now s) ⌝ }
     ensures { λ r. ⌜ r ≡ cutFault (now (s .entry)) at n ⌝ }
@@ -22,6 +23,7 @@ pub fn cut_fault(s: &[u8], at: usize, n: usize) -> u8
     if n <= s.len() - at { 0 } else { 1 }
 }
 
+// A spare is 0.
 pub fn spare_fault(x: u8) -> u8
     ensures { λ r. ⌜ r ≡ spareFault x ⌝ }
 {
@@ -51,6 +53,7 @@ pub fn one_to_256(x: u16) -> u8
     }
 }
 
+// The number of layers.
 pub fn layers_fault(x: u8) -> u8
     ensures { λ r. ⌜ r ≡ within 1 16 x ⌝ }
 {
@@ -60,6 +63,7 @@ pub fn layers_fault(x: u8) -> u8
     }
 }
 
+// A side of a kernel.
 pub fn kernel_fault(x: u8) -> u8
     ensures { λ r. ⌜ r ≡ within 1 7 x ⌝ }
 {
@@ -69,6 +73,7 @@ pub fn kernel_fault(x: u8) -> u8
     }
 }
 
+// A stride.
 pub fn stride_fault(x: u8) -> u8
     ensures { λ r. ⌜ r ≡ within 1 4 x ⌝ }
 {
@@ -78,6 +83,7 @@ pub fn stride_fault(x: u8) -> u8
     }
 }
 
+// A shift.
 pub fn shift_fault(x: u8) -> u8
     ensures { λ r. ⌜ r ≡ shiftFault x ⌝ }
 {
@@ -87,6 +93,7 @@ pub fn shift_fault(x: u8) -> u8
     }
 }
 
+// A multiplier: from 2^30 to 2^31 - 1.
 pub fn multiplier_fault(x: u32) -> u8
     ensures { λ r. ⌜ r ≡ multiplierFault x ⌝ }
 {
@@ -107,12 +114,14 @@ pub fn bias_fault(x: u32) -> u8
     }
 }
 
+// The clamp's low is at most its high.
 pub fn clamp_fault(low: u8, high: u8) -> u8
     ensures { λ r. ⌜ r ≡ clampFault low high ⌝ }
 {
     if low <= high { 0 } else { 2 }
 }
 
+// A padding is below both sides of its kernel.
 pub fn padding_fault(p: u8, rows: u8, columns: u8) -> u8
     ensures { λ r. ⌜ r ≡ paddingFault p rows columns ⌝ }
 {

@@ -6,22 +6,26 @@ use Prim.Native.Nat.{ℕ, _+_, _-_, _*_, _/_, _≤_, _<_}
 use native.Mathlib.Nat.{mul-le-mul-left, mul-le-mul-right, div-add-mod'}
 use native.Mathlib.Omega.{arith}
 use lib.ListN.{length, take}
-use Rattle.fields.specs.Shape.{bytesOf, GoodShape, rowBytes}
+use Rattle.fields.specs.Shape.{bytesOf, rowBytes}
+use Rattle.fields.specs.Asked.{GoodShape}
 use Rattle.records.specs.Frame.{frameOutput}
 use Rattle.fields.specs.declared.shape.Shape.{Shape}
 use Rattle.records.specs.declared.conv.Conv.{Conv}
 use Rattle.records.specs.declared.layer.Layer.{Layer}
 use Rattle.fields.proofs.Shapes.{mul-most}
-use Rattle.windows.specs.Lists.{pasted, joined, part, Apart}
-use Rattle.windows.specs.Window.{Sound, sizeOf, termsOf, windowOf}
+use Rattle.lists.specs.Lists.{pasted, joined, part}
+use Rattle.lists.specs.Asked.{Apart}
+use Rattle.windows.specs.Asked.{SmallWindow, sizeOf, windowBytes}
+use Rattle.windows.specs.Window.{windowOf}
 use Rattle.windows.specs.declared.window.Window.{Window}
-use Rattle.windows.proofs.Pasted.{part-length, part-part, part-pasted, apart-within, joined-same}
+use Rattle.lists.proofs.Pasted.{part-length, part-part, part-pasted, apart-within, joined-same}
 use Rattle.windows.proofs.Windows.{window-length, window-plain}
-use Rattle.layers.specs.Outputs.{OutputsReady, outputsOf}
+use Rattle.layers.specs.Asked.{OutputsReady, ConvReady}
+use Rattle.layers.specs.Outputs.{outputsOf}
 use Rattle.layers.specs.Conv.{windowFor, convOutputs, convRow}
-use Rattle.layers.specs.Row.{ConvReady, tensorAt}
+use Rattle.layers.specs.Row.{tensorAt}
 use Rattle.layers.specs.declared.outputs.Outputs.{Outputs}
-use Rattle.layers.proofs.Laid.{Laid, room, laid-more, laid-apart, cut-is}
+use Rattle.lists.proofs.Laid.{Laid, room, laid-more, laid-apart, cut-is}
 use Rattle.layers.proofs.Rows.{row-in}
 use Rattle.layers.proofs.Lengths.{outputs-length}
 use Rattle.layers.proofs.Totals.{ready-any}
@@ -29,10 +33,10 @@ use Rattle.layers.proofs.Totals.{ready-any}
 -- ---- a window that is gathered
 
 -- the cells of a tensor, and those of a kernel
-pub cells-few : (w : Window) → Sound w → w .rows * w .columns ≤ 16384
+pub cells-few : (w : Window) → SmallWindow w → w .rows * w .columns ≤ 16384
 cells-few w s = omega (arith, s .size, mul-le-mul-left (w .rows * w .columns) (s .channels-some))
 
-pub taps-few : (w : Window) → Sound w → w .height * w .width ≤ 49
+pub taps-few : (w : Window) → SmallWindow w → w .height * w .width ≤ 49
 taps-few w s = mul-most (w .height) (w .width) 7 7 (s .height) (s .width)
 
 -- a product of three numbers, as the code makes it
@@ -43,7 +47,7 @@ product a b k em en = en ∙ ap (λ (x : ℕ). x * k) em
 pub patch-is :
     (w : Window) (area d : List ℕ) (from p q : ℕ) {n k : ℕ} {patch : List ℕ} →
     n ≡ sizeOf w →
-    k ≡ termsOf w →
+    k ≡ windowBytes w →
     from + sizeOf w ≤ length area →
     patch ≡ pasted d 0 (windowOf w (part area from (from + n - from)) p q) →
     take k patch ≡ windowOf w (part area from (sizeOf w)) p q
@@ -100,7 +104,7 @@ module _ (y : Layer) (c : Conv) {file sums : List ℕ} (r : ConvReady y c file s
     plain-columns ew es = columns-are ∙ plain-side (y .input .columns) (c .frame .padding) (c .frame .width) (c .frame .stride) (g .columns-some) (r .ok .frame .padding-columns) ew es
 
     -- the window's numbers are in their bounds
-    window-sound : (z : ℕ) → Sound (windowFor (y .input) (c .frame) z)
+    window-sound : (z : ℕ) → SmallWindow (windowFor (y .input) (c .frame) z)
     unfolding bytesOf
     window-sound z = record {
       rows = g .rows-few;
@@ -126,15 +130,15 @@ module _ (y : Layer) (c : Conv) {file sums : List ℕ} (r : ConvReady y c file s
         from + bytesOf (y .input) ≤ size →
         at + o .count ≤ size →
         12544 ≤ patch →
-        Sound w ×
-        (OutputsReady o (termsOf w) file sums ×
+        SmallWindow w ×
+        (OutputsReady o (windowBytes w) file sums ×
         (((from + sizeOf w ≤ size) × (at + o .count ≤ size)) ×
-        ((q ≤ w .columns + w .left) × (p ≤ 131072) × (termsOf w ≤ patch))))
+        ((q ≤ w .columns + w .left) × (p ≤ 131072) × (windowBytes w ≤ patch))))
     unfolding bytesOf
     place-ready z i j from at ew eo hi hj ep eq hf hr hp =
         let sound = window-sound z in
         let taps = taps-few (windowFor (y .input) (c .frame) z) sound in
-        let terms : termsOf (windowFor (y .input) (c .frame) z) ≤ 12544 = mul-most (c .frame .height * c .frame .width) (y .input .channels) 49 256 taps (g .channels-few) in (
+        let terms : windowBytes (windowFor (y .input) (c .frame) z) ≤ 12544 = mul-most (c .frame .height * c .frame .width) (y .input .channels) 49 256 taps (g .channels-few) in (
           rw ew sound,
           (
             rw (eo, ew) (ready-any (convOutputs y c 0) z _ (r .outputs)),

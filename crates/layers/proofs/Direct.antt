@@ -2,31 +2,29 @@
 -- every total, with any stored sum that test 6 lets pass.
 -- Assumes nothing.
 use mathlib.Core.Path.{_≡_, sym, ap, _∙_}
-use mathlib.Core.List.{List, [], _∷_}
-use Prim.Native.Nat.{ℕ, zero, suc, _+_, _*_, _≤_, _<_}
+use mathlib.Core.List.{List}
+use Prim.Native.Nat.{ℕ, _+_, _*_, _≤_, _<_}
 use native.Mathlib.Nat.{mul-le-mul-right}
-use native.Mathlib.Decide.{decLt}
 use native.Mathlib.Omega.{arith}
 use lib.IntN.{ℤ, natAbs, _+ℤ_}
-use lib.ListN.{length, getD, drop, List·getD-append}
-use lib.Seq.{getD-take, getD-drop, getD-append-seam}
+use lib.ListN.{length, getD, drop}
+use lib.Seq.{getD-take, getD-drop}
 use mir.Syntax.{w32}
 use mir.Val.{SFits}
 use Rattle.numbers.specs.Total.{sum, centred, totalOf}
-use Rattle.numbers.specs.Rescale.{rescaled}
-use Rattle.numbers.specs.Finish.{finished}
 use Rattle.numbers.proofs.Totals.{true-sum, within}
 use Rattle.numbers.proofs.Whole.{small-fits}
 use Rattle.fields.specs.Bytes.{i32At}
 use Rattle.records.specs.Layer.{sumsOf}
 use Rattle.records.specs.declared.layer.Layer.{Layer}
-use Rattle.windows.specs.Lists.{joined, part}
-use Rattle.windows.proofs.Bytes.{Bytes, bytes-take, bytes-drop}
-use Rattle.windows.proofs.Pasted.{part-length}
-use Rattle.layers.specs.Outputs.{weightsOf, totalAt, outputOf, OutputsReady}
+use Rattle.lists.specs.Lists.{part}
+use Rattle.lists.proofs.Bytes.{Bytes, bytes-take, bytes-drop}
+use Rattle.lists.proofs.Pasted.{part-length}
+use Rattle.lists.proofs.Laid.{joined-at}
+use Rattle.layers.specs.Outputs.{weightsOf, totalAt, byteBy, outputOf}
+use Rattle.layers.specs.Asked.{OutputsReady}
 use Rattle.layers.specs.Sums.{weightSum, layerSums}
 use Rattle.layers.specs.declared.outputs.Outputs.{Outputs}
-use Rattle.layers.proofs.Lengths.{singles-length}
 
 -- the n weights of output f, where they stand in the file
 pub weights-length :
@@ -47,43 +45,23 @@ module _
   -- the total is the bias and Σ(q − Z)(w − V)
   pub total-direct :
       totalAt o file sums q f ≡
-      i32At file (o .biases + 4 * f) +ℤ centred (o .z) (o .v) q (weightsOf file (o .weights) n f)
+      i32At file (o .biases + 4 * f) +ℤ centred (o .z) (o .weighing .v) q (weightsOf file (o .weights) n f)
   total-direct =
+      let v = o .weighing .v in
       let b : ℤ = i32At file (o .biases + 4 * f) in
       let w : List ℕ = weightsOf file (o .weights) n f in
-      ap (λ k. totalOf b q (weightsOf file (o .weights) k f) (getD sums (o .sums + f) 0) (o .z) (o .v)) e ∙
-      ap (λ t. totalOf b q w t (o .z) (o .v)) s ∙
-      true-sum b q w (o .z) (o .v) (e ∙ sym (weights-length file (o .weights) n f h))
+      ap (λ k. totalOf b q (weightsOf file (o .weights) k f) (getD sums (o .sums + f) 0) (o .z) v) e ∙
+      ap (λ t. totalOf b q w t (o .z) v) s ∙
+      true-sum b q w (o .z) v (e ∙ sym (weights-length file (o .weights) n f h))
 
   -- and the byte is that number rescaled and finished
   pub output-direct :
       outputOf o file sums q f ≡
-      finished
-      (rescaled
-      (i32At file (o .biases + 4 * f) +ℤ centred (o .z) (o .v) q (weightsOf file (o .weights) n f))
-      (o .scale .multiplier)
-      (o .scale .shift))
-      (o .zero)
-      (o .low)
-      (o .high)
+      byteBy (o .weighing) (i32At file (o .biases + 4 * f) +ℤ centred (o .z) (o .weighing .v) q (weightsOf file (o .weights) n f))
   unfolding outputOf
-  output-direct =
-      ap (λ a. finished (rescaled a (o .scale .multiplier) (o .scale .shift)) (o .zero) (o .low) (o .high)) total-direct
+  output-direct = rw total-direct
 
 -- ---- the store, where it holds the true sums of a layer
-
--- one number at each place
-singles-at : (n : ℕ) (v : ℕ → ℕ) (k : ℕ) → k < n → getD (joined n (λ i. v i ∷ [])) k 0 ≡ v k
-unfolding joined
-singles-at zero v k h = absurd (omega arith)
-singles-at (suc n) v k h =
-    let l = singles-length n v in
-    elim (decLt k n) [
-      | yes g ↦ List·getD-append (joined n (λ i. v i ∷ [])) (v n ∷ []) 0 k (omega arith) ∙ singles-at n v k g
-      | no g ↦
-          let e : k ≡ n = omega arith in
-          rw e (rw l at (getD-append-seam (joined n (λ i. v i ∷ [])) (v n) [] 0))
-    ]
 
 -- each output's is the sum of its weights
 pub sum-true :
@@ -96,7 +74,7 @@ unfolding layerSums
 sum-true y file sums e f h =
     sym (getD-take (sumsOf (y .kind)) (drop (y .sums) sums) f 0 h ∙ getD-drop (y .sums) sums f 0) ∙
     ap (λ (d : List ℕ). getD d f 0) e ∙
-    singles-at (sumsOf (y .kind)) (weightSum y file) f h
+    joined-at (sumsOf (y .kind)) (weightSum y file) 0 f h
 
 -- ---- the bound: output f, at a window q of n bytes, with any sum from 0 to 255n
 
@@ -110,7 +88,7 @@ module _
     (bq : Bytes q)
     (bf : Bytes file)
     (hz : o .z ≤ 255)
-    (hv : o .v ≤ 255) where
+    (hv : o .weighing .v ≤ 255) where
   -- the total is within 65,025 × 16,384 + 2^30 of zero
   pub total-within : natAbs (totalAt o file sums q f) ≤ 2139111424
   total-within =
@@ -122,7 +100,7 @@ module _
       let b : ℤ = i32At file (o .biases + 4 * f) in
       let t : ℕ = getD sums (o .sums + f) 0 in
       let ht : t ≤ 255 * length q = rw e (r .sums-small f hf) in
-      within b q w t (o .z) (o .v) (r .biases-small f hf) same (rw e (r .terms-few)) bq bw ht hz hv
+      within b q w t (o .z) (o .weighing .v) (r .biases-small f hf) same (rw e (r .terms-few)) bq bw ht hz hv
 
   -- so it fits 32 bits, signed
   pub total-signed : SFits w32 (totalAt o file sums q f)

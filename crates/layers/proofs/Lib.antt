@@ -1,7 +1,6 @@
 -- Laws that belong to no one function.
 pub mod Convs
 pub mod Direct
-pub mod Laid
 pub mod Lengths
 pub mod Local
 pub mod Rows

@@ -1,7 +1,7 @@
 -- What a row depends on: the layer's parameters, its inputs' zero-points, its record, its stored sums, and the rows of its
 -- inputs that it sees.
 -- Assumes nothing.
-use mathlib.Core.Path.{_≡_, refl, sym, ap, subst, _∙_}
+use mathlib.Core.Path.{_≡_, refl, sym, ap, _∙_}
 use mathlib.Core.List.{List, [], _∷_}
 use Prim.Native.Nat.{ℕ, _+_, _*_, _-_, _≤_, _<_}
 use native.Mathlib.Nat.{add-sub-of-le, mul-le-mul-right, zero-add}
@@ -15,24 +15,24 @@ use Rattle.fields.specs.Stored.{storedLen}
 use Rattle.records.specs.Mark.{fixedLen}
 use Rattle.records.specs.Layer.{sumsOf, termsOf, biasesAt, weightsAt, recordLen}
 use Rattle.fields.specs.declared.shape.Shape.{Shape}
-use Rattle.records.specs.declared.conv.Conv.{Conv}
-use Rattle.records.specs.declared.full.Full.{Full}
-use Rattle.records.specs.declared.add.Add.{Add}
+use Rattle.records.specs.declared.weighing.Weighing.{Weighing}
+use Rattle.records.specs.declared.conv.Conv.{Conv as ConvParams}
+use Rattle.records.specs.declared.full.Full.{Full as FullParams}
+use Rattle.records.specs.declared.add.Add.{Add as AddParams}
 use Rattle.records.specs.declared.layer.Kind.{Kind}
-use Rattle.records.specs.declared.layer.Kind.the-variants.{Convolution, Fully, Addition}
+use Rattle.records.specs.declared.layer.Kind.the-variants.{Conv, Full, Add}
 use Rattle.records.specs.declared.layer.Layer.{Layer}
-use Rattle.windows.specs.Lists.{part}
+use Rattle.lists.specs.Lists.{part}
 use Rattle.windows.specs.Window.{windowOf}
 use Rattle.windows.specs.declared.window.Window.{Window}
-use Rattle.windows.proofs.Pasted.{part-part, joined-same, joined-part}
+use Rattle.lists.proofs.Pasted.{part-part, joined-same, joined-part}
 use Rattle.windows.proofs.Windows.{window-length, window-local}
-use Rattle.layers.specs.Outputs.{weightsOf, outputOf, outputsOf}
+use Rattle.layers.specs.Outputs.{outputsFor, weightsOf, outputOf, outputsOf}
 use Rattle.layers.specs.Conv.{windowFor, convOutputs, convRow}
 use Rattle.layers.specs.Full.{fullOutputs, fullRow}
 use Rattle.layers.specs.Add.{addRow}
 use Rattle.layers.specs.Row.{rowBy, rowOf}
 use Rattle.layers.specs.Sums.{layerSums}
-use Rattle.layers.specs.declared.outputs.Outputs.{Outputs}
 use Rattle.layers.proofs.Lengths.{ShapedBy}
 
 -- ---- lists with the same n elements from place at
@@ -121,21 +121,6 @@ module _ (y : Layer) (file file′ : List ℕ) (e : SameRecord y file file′) w
   weights-local =
       stored-weights file file′ (y .start) (fixedLen (y .mark)) (sumsOf (y .kind)) (termsOf (y .kind) (y .input)) e
 
-  -- said of a layer of kind k
-  bias-by : (k : Kind) → y .kind ≡ k → (f : ℕ) → f < sumsOf k → i32At file (biasesAt y + 4 * f) ≡ i32At file′ (biasesAt y + 4 * f)
-  bias-by k h = subst (λ (x : Kind). (f : ℕ) → f < sumsOf x → i32At file (biasesAt y + 4 * f) ≡ i32At file′ (biasesAt y + 4 * f)) h bias-local
-
-  weights-by :
-      (k : Kind) →
-      y .kind ≡ k →
-      (f : ℕ) →
-      f < sumsOf k →
-      weightsOf file (weightsAt y) (termsOf k (y .input)) f ≡ weightsOf file′ (weightsAt y) (termsOf k (y .input)) f
-  weights-by k h =
-      subst (λ (x : Kind).
-      (f : ℕ) → f < sumsOf x → weightsOf file (weightsAt y) (termsOf x (y .input)) f ≡ weightsOf file′ (weightsAt y) (termsOf x (y .input)) f) h
-      weights-local
-
   -- so the true sums are the same where the record is
   pub sums-local : layerSums y file ≡ layerSums y file′
   unfolding layerSums
@@ -167,9 +152,9 @@ InWindow before kernel stride i r = (i * stride ≤ r + before) × (r + before <
 
 -- row i of a layer sees row r of an input: a full layer's one row sees all, an add's row i sees row i
 abbrev pub seesBy : Kind → Layer → ℕ → ℕ → Type 0
-seesBy (Convolution c) y i r = InWindow (c .frame .padding) (c .frame .height) (c .frame .stride) i r
-seesBy (Fully f) y i r = InWindow 0 (y .input .rows) 1 i r
-seesBy (Addition a) y i r = InWindow 0 1 1 i r
+seesBy (Conv c) y i r = InWindow (c .frame .padding) (c .frame .height) (c .frame .stride) i r
+seesBy (Full f) y i r = InWindow 0 (y .input .rows) 1 i r
+seesBy (Add a) y i r = InWindow 0 1 1 i r
 
 -- two tensors have the same rows where row i sees them
 abbrev pub SameRows : Kind → Layer → ℕ → List ℕ → List ℕ → Type 0
@@ -177,61 +162,57 @@ SameRows k y i t u = (r : ℕ) → seesBy k y i r → r < y .input .rows → row
 
 -- ---- a row
 
--- the outputs at a window q of n bytes
+-- the outputs of a layer of kind k at a window q that has its terms
 outputs-local :
-    (o : Outputs) (file file′ sums sums′ q : List ℕ) (n : ℕ) →
-    length q ≡ n →
-    ((f : ℕ) → f < o .count → i32At file (o .biases + 4 * f) ≡ i32At file′ (o .biases + 4 * f)) →
-    ((f : ℕ) → f < o .count → weightsOf file (o .weights) n f ≡ weightsOf file′ (o .weights) n f) →
-    SamePart sums sums′ (o .sums) (o .count) →
-    outputsOf o file sums q ≡ outputsOf o file′ sums′ q
-unfolding outputsOf outputOf
-outputs-local o file file′ sums sums′ q n e b w s =
-    joined-same (o .count) (λ f h.
-    cc (e, b f h, w f h, at-inside sums sums′ (o .sums) (o .count) s (o .sums + f) (omega arith) (omega arith)))
-
-conv-local :
-    (y : Layer) (c : Conv) (z : ℕ) (file file′ sums sums′ t u : List ℕ) (i : ℕ) →
-    length t ≡ bytesOf (y .input) →
-    y .kind ≡ Convolution c →
+    (y : Layer) (k : Kind) (w : Weighing) (z : ℕ) (file file′ sums sums′ q : List ℕ) →
+    y .kind ≡ k →
+    length q ≡ termsOf k (y .input) →
     SameRecord y file file′ →
     SameSums y sums sums′ →
-    SameRows (Convolution c) y i t u →
+    let o = outputsFor y (sumsOf k) w z in
+    outputsOf o file sums q ≡ outputsOf o file′ sums′ q
+unfolding outputsOf outputOf
+outputs-local y k w z file file′ sums sums′ q x l e s =
+    joined-same (sumsOf k) (λ f h.
+    let g : f < sumsOf (y .kind) = rw x h in
+    cc (
+      bias-local y file file′ e f g,
+      weights-local y file file′ e f g,
+      at-inside sums sums′ (y .sums) (sumsOf (y .kind)) s (y .sums + f) (omega arith) (omega arith),
+    ))
+
+conv-local :
+    (y : Layer) (c : ConvParams) (z : ℕ) (file file′ sums sums′ t u : List ℕ) (i : ℕ) →
+    length t ≡ bytesOf (y .input) →
+    y .kind ≡ Conv c →
+    SameRecord y file file′ →
+    SameSums y sums sums′ →
+    SameRows (Conv c) y i t u →
     convRow y c z file sums t i ≡ convRow y c z file′ sums′ u i
 unfolding convRow bytesOf
 conv-local y c z file file′ sums sums′ t u i l k e s h =
-    let n : ℕ = termsOf (Convolution c) (y .input) in
-    let o : Outputs = convOutputs y c z in
     let w : Window = windowFor (y .input) (c .frame) z in
     let p : ℕ = i * c .frame .stride in
-    let bias = bias-by y file file′ e _ k in
-    let weights = weights-by y file file′ e _ k in
-    let sums-same = subst (λ (x : Kind). SamePart sums sums′ (y .sums) (sumsOf x)) k s in
     joined-same (y .output .columns) (λ j g.
     let q : ℕ = j * c .frame .stride in
-    outputs-local o file file′ sums sums′ (windowOf w t p q) n (window-length w t p q l) bias weights sums-same ∙
-    ap (outputsOf o file′ sums′) (window-local w t u p q (λ r a b k. h r (a, b) k)))
+    outputs-local y (Conv c) (c .weighing) z file file′ sums sums′ (windowOf w t p q) k (window-length w t p q l) e s ∙
+    ap (outputsOf (convOutputs y c z) file′ sums′) (window-local w t u p q (λ r a b k. h r (a, b) k)))
 
 full-local :
-    (y : Layer) (f : Full) (z : ℕ) (file file′ sums sums′ t u : List ℕ) →
+    (y : Layer) (f : FullParams) (z : ℕ) (file file′ sums sums′ t u : List ℕ) →
     length t ≡ bytesOf (y .input) →
     length u ≡ bytesOf (y .input) →
-    y .kind ≡ Fully f →
+    y .kind ≡ Full f →
     SameRecord y file file′ →
     SameSums y sums sums′ →
     ((r : ℕ) → r < y .input .rows → rowPart t r (y .input) ≡ rowPart u r (y .input)) →
     fullRow y f z file sums t ≡ fullRow y f z file′ sums′ u
 full-local y f z file file′ sums sums′ t u l l′ k e s h =
-    let n : ℕ = bytesOf (y .input) in
-    let o : Outputs = fullOutputs y f z in
-    let bias = bias-by y file file′ e _ k in
-    let weights = weights-by y file file′ e _ k in
-    let sums-same = subst (λ (x : Kind). SamePart sums sums′ (y .sums) (sumsOf x)) k s in
-    outputs-local o file file′ sums sums′ t n l bias weights sums-same ∙
-    ap (outputsOf o file′ sums′) (tensor-by-rows t u (y .input) l l′ h)
+    outputs-local y (Full f) (f .weighing) z file file′ sums sums′ t k l e s ∙
+    ap (outputsOf (fullOutputs y f z) file′ sums′) (tensor-by-rows t u (y .input) l l′ h)
 
 add-local :
-    (a : Add) (z z′ w : ℕ) (t u t′ u′ : List ℕ) (i : ℕ) →
+    (a : AddParams) (z z′ w : ℕ) (t u t′ u′ : List ℕ) (i : ℕ) →
     SamePart t u (i * w) w →
     SamePart t′ u′ (i * w) w →
     addRow a z z′ w t t′ i ≡ addRow a z z′ w u u′ i
@@ -255,12 +236,12 @@ local-by :
     SameRows k y i t u →
     SameRows k y i t′ u′ →
     rowBy k y z z′ file sums t t′ i ≡ rowBy k y z z′ file′ sums′ u u′ i
-local-by (Convolution c) y z z′ file file′ sums sums′ t u t′ u′ i x p hi l l′ e s h h′ =
+local-by (Conv c) y z z′ file file′ sums sums′ t u t′ u′ i x p hi l l′ e s h h′ =
     conv-local y c z file file′ sums sums′ t u i l x e s h
-local-by (Fully f) y z z′ file file′ sums sums′ t u t′ u′ i x p hi l l′ e s h h′ =
+local-by (Full f) y z z′ file file′ sums sums′ t u t′ u′ i x p hi l l′ e s h h′ =
     let first : i < 1 = rw p at hi in
     full-local y f z file file′ sums sums′ t u l l′ x e s (λ r g. h r (omega arith, omega arith) g)
-local-by (Addition a) y z z′ file file′ sums sums′ t u t′ u′ i x p hi l l′ e s h h′ =
+local-by (Add a) y z z′ file file′ sums sums′ t u t′ u′ i x p hi l l′ e s h h′ =
     let inside : i < y .input .rows = rw p at hi in
     let seen : InWindow 0 1 1 i i = (omega arith, omega arith) in
     rw p (add-local a z z′ (rowBytes (y .input)) t u t′ u′ i (h i seen inside) (h′ i seen inside))

@@ -15,11 +15,12 @@ use Rattle.records.specs.declared.full.Full.{Full}
 use Rattle.records.specs.declared.add.Add.{Add}
 use Rattle.records.specs.declared.layer.Kind.{Kind}
 use Rattle.records.specs.declared.layer.Layer.{Layer}
-use Rattle.windows.specs.Lists.{pasted, joined, part}
-use Rattle.windows.proofs.Pasted.{apart-within, joined-same}
+use Rattle.lists.specs.Lists.{pasted, joined, part}
+use Rattle.lists.proofs.Pasted.{apart-within, joined-same}
 use Rattle.layers.specs.Add.{addByte, addRow}
-use Rattle.layers.specs.Row.{tensorAt, rowBy, rowOf, ConvReady, KindReady, Placed, Ready}
-use Rattle.layers.proofs.Laid.{Laid, part-at, laid-more, laid-apart}
+use Rattle.layers.specs.Row.{tensorAt, rowBy, rowOf}
+use Rattle.layers.specs.Asked.{ConvReady, KindReady, Placed, Ready}
+use Rattle.lists.proofs.Laid.{Laid, part-at, laid-more, laid-apart}
 use Rattle.layers.proofs.Lengths.{ready-shaped, row-length}
 
 -- k rows from row i stand within their tensor
@@ -45,7 +46,7 @@ module _ (y : Layer) (z z′ : ℕ) (file sums : List ℕ) (from other : ℕ) wh
   abbrev pub rowFrom : List ℕ → ℕ → List ℕ
   rowFrom area i = rowOf y z z′ file sums (tensorAt area from (y .input)) (tensorAt area other (y .input)) i
 
-  -- one more row of a run, of the tensors that stand in the area apart from it
+  -- one more row, of the tensors that stand in the area apart from it
   pub rows-turn :
       (area : List ℕ) (first end i : ℕ) {area₁ area₂ : List ℕ} →
       Ready y file sums (length area) from other →
@@ -110,4 +111,4 @@ add-done a z z′ area from other place size i w {w′} {skip} ew es h e =
     byte : (at k : ℕ) → k < w′ → getD area (at + skip + k) 0 ≡ getD (part area at size) (i * w′ + k) 0
     byte at k g =
         let there : at + skip + k ≡ at + (i * w′ + k) = omega arith in
-        rw (part-at area at size (i * w′ + k) (omega arith), there)
+        rw (part-at area 0 at size (i * w′ + k) (omega arith), there)

@@ -5,13 +5,13 @@ use mathlib.Core.List.{List}
 use Prim.Native.Nat.{ℕ, _+_, _*_, _^_, _≤_}
 use lib.IntN.{ℤ, natAbs}
 use lib.ListN.{length, getD}
-use Rattle.numbers.specs.Total.{Sums, sum, dot, totalFrom, totalOf}
-use Rattle.numbers.specs.Rescale.{rescaled}
-use Rattle.numbers.specs.Finish.{finished}
+use Rattle.numbers.specs.Asked.{TermsFit}
+use Rattle.numbers.specs.Total.{sum, dot, totalFrom, totalOf}
 use Rattle.numbers.proofs.Totals.{sums, within}
 use Rattle.fields.specs.Bytes.{i32At}
-use Rattle.windows.proofs.Bytes.{Bytes}
-use Rattle.layers.specs.Outputs.{weightsOf, outputOf, OutputsReady}
+use Rattle.lists.proofs.Bytes.{Bytes}
+use Rattle.layers.specs.Outputs.{weightsOf, byteBy, outputOf}
+use Rattle.layers.specs.Asked.{OutputsReady}
 use Rattle.layers.specs.declared.outputs.Outputs.{Outputs}
 
 module _ (b : ℤ) (q w : List ℕ) (t z v : ℕ) {b′ : ℤ} {products bytes : ℕ} (eb : b′ ≡ b) (ep : products ≡ dot q w) (es : bytes ≡ sum q) where
@@ -29,7 +29,7 @@ module _ (b : ℤ) (q w : List ℕ) (t z v : ℕ) {b′ : ℤ} {products bytes :
       t ≤ 255 * length q →
       z ≤ 255 →
       v ≤ 255 →
-      Sums products bytes t (length q) × (natAbs (totalFrom b′ products bytes t (length q) z v) ≤ 2139111424)
+      TermsFit products bytes t (length q) × (natAbs (totalFrom b′ products bytes t (length q) z v) ≤ 2139111424)
   total-ready hb e hn bq bw ht hz hv =
       rw (eb, ep, es) (sums q w t e hn bq bw ht, within b q w t z v hb e hn bq bw ht hz hv)
 
@@ -40,11 +40,7 @@ pub ready-any : (o : Outputs) (z n : ℕ) {file sums : List ℕ} → OutputsRead
   weights = o .weights;
   sums = o .sums;
   z = z;
-  v = o .v;
-  zero = o .zero;
-  low = o .low;
-  high = o .high;
-  scale = o .scale;
+  weighing = o .weighing;
 }) n file sums
 ready-any o z n r = record {
   count-few = r .count-few;
@@ -55,9 +51,7 @@ ready-any o z n r = record {
   biases-small = r .biases-small;
   sums-in = r .sums-in;
   sums-small = r .sums-small;
-  clamp = r .clamp;
-  multiplier-few = r .multiplier-few;
-  shift-few = r .shift-few;
+  weighing = r .weighing;
 }
 
 module _ (o : Outputs) (file sums q : List ℕ) where
@@ -66,7 +60,7 @@ module _ (o : Outputs) (file sums q : List ℕ) where
       (f : ℕ) {b : ℤ} {w : List ℕ} {r : ℕ} →
       b ≡ i32At file (o .biases + 4 * f) →
       w ≡ weightsOf file (o .weights) (length q) f →
-      r ≡ finished (rescaled (totalOf b q w (getD sums (o .sums + f) 0) (o .z) (o .v)) (o .scale .multiplier) (o .scale .shift)) (o .zero) (o .low) (o .high) →
+      r ≡ byteBy (o .weighing) (totalOf b q w (getD sums (o .sums + f) 0) (o .z) (o .weighing .v)) →
       r ≡ outputOf o file sums q f
   unfolding outputOf
   output-is f eb ew er = rw (er, eb, ew)

@@ -6,7 +6,7 @@ use Prim.Native.Nat.{ℕ, _+_, _*_}
 use Rattle.numbers.specs.Total.{sum}
 use Rattle.records.specs.Layer.{sumsOf, termsOf, weightsAt}
 use Rattle.records.specs.declared.layer.Layer.{Layer}
-use Rattle.windows.specs.Lists.{joined, part}
+use Rattle.lists.specs.Lists.{joined, part}
 use Rattle.layers.specs.Sums.{layerSums}
 
 module _ (y : Layer) where

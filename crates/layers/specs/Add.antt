@@ -6,7 +6,7 @@ use lib.ListN.{getD}
 use Rattle.numbers.specs.Finish.{finished}
 use Rattle.numbers.specs.Addition.{offset, summed}
 use Rattle.records.specs.declared.add.Add.{Add}
-use Rattle.windows.specs.Lists.{joined}
+use Rattle.lists.specs.Lists.{joined}
 
 -- the byte that q of tensor k − 1, with zero-point z, and q′ of tensor j, with zero-point z′, give
 unfoldable pub addByte : Add → ℕ → ℕ → ℕ → ℕ → ℕ

@@ -5,3 +5,4 @@ pub mod Full
 pub mod Add
 pub mod Row
 pub mod Sums
+pub mod Asked

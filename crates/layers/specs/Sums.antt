@@ -5,7 +5,7 @@ use mathlib.Core.List.{List, [], _∷_}
 use Rattle.numbers.specs.Total.{sum}
 use Rattle.records.specs.Layer.{sumsOf, termsOf, weightsAt}
 use Rattle.records.specs.declared.layer.Layer.{Layer}
-use Rattle.windows.specs.Lists.{joined}
+use Rattle.lists.specs.Lists.{joined}
 use Rattle.layers.specs.Outputs.{weightsOf}
 
 -- the sum of the weight bytes of output f of a layer

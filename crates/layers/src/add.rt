@@ -3,26 +3,27 @@ ghost use mathlib.Core.Path.{_≡_};
 ghost use Prim.Native.Nat.{_+_, _*_, _<_};
 ghost use lib.ListN.{length};
 ghost use Rattle.fields.specs.Shape.{rowBytes};
-ghost use Rattle.records.specs.Add.{AddOk};
-ghost use Rattle.windows.specs.Lists.{pasted};
+ghost use Rattle.records.specs.Asked.{AddOk};
+ghost use Rattle.lists.specs.Lists.{pasted};
 ghost use Rattle.layers.specs.Add.{addByte, addRow};
-ghost use Rattle.layers.specs.Row.{AddReady, Placed, tensorAt};
-use numbers::addition::lift;
-use numbers::addition::sum;
+ghost use Rattle.layers.specs.Asked.{AddReady, Placed};
+ghost use Rattle.layers.specs.Row.{tensorAt};
+use numbers::addition::offset_of;
+use numbers::addition::summed_of;
 use numbers::finish::finish;
+use numbers::small::times;
 use records::add::Add;
 use records::layer::Layer;
-use windows::window::times;
 
 // The output byte of q, with zero-point z, and r, with zero-point zr.
 fn add_byte(a: Add, z: u8, zr: u8, q: u8, r: u8) -> u8
     requires { ⌜ AddOk a ⌝ }
     ensures { λ b. ⌜ b ≡ addByte a z zr q r ⌝ }
 {
-    let first = lift(q, z, a.first.multiplier, a.first.shift);
-    let second = lift(r, zr, a.second.multiplier, a.second.shift);
+    let first = offset_of(q, z, a.first.multiplier, a.first.shift);
+    let second = offset_of(r, zr, a.second.multiplier, a.second.shift);
     finish(
-        sum(first, second, a.third.multiplier, a.third.shift),
+        summed_of(first, second, a.third.multiplier, a.third.shift),
         a.zero,
         a.low,
         a.high,

@@ -2,23 +2,26 @@
 ghost use mathlib.Core.Path.{_≡_};
 ghost use Prim.Native.Nat.{_+_, _*_, _≤_, _<_};
 ghost use lib.ListN.{length};
+ghost use Rattle.numbers.specs.Asked.{windowMost};
 ghost use Rattle.fields.specs.Shape.{rowBytes};
-ghost use Rattle.windows.specs.Lists.{pasted, part};
-ghost use Rattle.windows.specs.Window.{Sound, sizeOf, termsOf, windowOf};
-ghost use Rattle.layers.specs.Outputs.{OutputsReady, outputsOf};
-ghost use Rattle.layers.specs.Conv.{windowFor, convOutputs, convRow};
-ghost use Rattle.layers.specs.Row.{ConvReady, Placed, tensorAt};
+ghost use Rattle.lists.specs.Lists.{pasted, part};
+ghost use Rattle.windows.specs.Asked.{SmallWindow, sizeOf, windowBytes};
+ghost use Rattle.windows.specs.Window.{windowOf};
+ghost use Rattle.layers.specs.Asked.{OutputsReady, ConvRowReady};
+ghost use Rattle.layers.specs.Outputs.{outputsOf};
+ghost use Rattle.layers.specs.Conv.{windowFor, convRow};
+ghost use Rattle.layers.specs.Row.{tensorAt};
 use crate::outputs::Outputs;
+use crate::outputs::outputs_for;
 use crate::outputs::put_outputs;
 use crate::outputs::put_within;
+use numbers::small::times;
 use records::conv::Conv;
 use records::layer::Layer;
-use records::layer::biases_at;
-use records::layer::weights_at;
 use windows::window::Window;
 use windows::window::gather;
-use windows::window::times;
 
+// The window of a frame over the layer's input.
 fn window_for(y: Layer, c: Conv, z: u8) -> Window
     ensures { λ r. ⌜ r ≡ windowFor (y .input) (c .frame) z ⌝ }
 {
@@ -36,25 +39,6 @@ fn window_for(y: Layer, c: Conv, z: u8) -> Window
     }
 }
 
-fn conv_outputs(y: Layer, c: Conv, z: u8) -> Outputs
-    requires { ⌜ y .start ≤ 65536 ⌝ }
-    ensures { λ r. ⌜ r ≡ convOutputs y c z ⌝ }
-{
-    let scale = c.scale;
-    Outputs {
-        count: c.filters as usize,
-        biases: biases_at(y),
-        weights: weights_at(y),
-        sums: y.sums,
-        z,
-        v: c.v,
-        zero: c.zero,
-        low: c.low,
-        high: c.high,
-        scale,
-    }
-}
-
 // The outputs at the window from row p, column q of the padded tensor that stands in area from `from`, to area from at.
 // What the patch holds afterwards is not said.
 fn conv_place(
@@ -69,10 +53,10 @@ fn conv_place(
     p: usize,
     q: usize,
 )
-    requires { ⌜ Sound w ⌝ }
-    requires { ⌜ OutputsReady o (termsOf w) (now file) (now sums) ⌝ }
+    requires { ⌜ SmallWindow w ⌝ }
+    requires { ⌜ OutputsReady o (windowBytes w) (now file) (now sums) ⌝ }
     requires { ⌜ (from + sizeOf w ≤ length (now area)) × (at + o .count ≤ length (now area)) ⌝ }
-    requires { ⌜ (q ≤ w .columns + w .left) × (p ≤ 131072) × (termsOf w ≤ length (now patch)) ⌝ }
+    requires { ⌜ (q ≤ w .columns + w .left) × (p ≤ 131072) × (windowBytes w ≤ length (now patch)) ⌝ }
     ensures { λ _. ⌜ now (area .exit) ≡ pasted (now (area .entry)) at (outputsOf o (now (file .entry)) (now (sums .entry)) (windowOf w (part (now (area .entry)) from (sizeOf w)) p q)) ⌝ }
 {
     let n = times(times(w.height, w.width), w.channels);
@@ -93,13 +77,13 @@ fn gathered_row(
     from: usize,
     i: usize,
 )
-    requires { ⌜ ConvReady y c (now file) (now sums) ⌝ }
-    requires { ⌜ Placed y (length (now area)) from ⌝ }
-    requires { ⌜ (i < y .output .rows) × (12544 ≤ length (now patch)) ⌝ }
+    requires { ⌜ ConvRowReady y c (now file) (now sums) (length (now area)) from i ⌝ }
+    requires { ⌜ windowMost ≤ length (now patch) ⌝ }
     ensures { λ _. ⌜ now (area .exit) ≡ pasted (now (area .entry)) (y .place + i * rowBytes (y .output)) (convRow y c z (now (file .entry)) (now (sums .entry)) (tensorAt (now (area .entry)) from (y .input)) i) ⌝ }
 {
     let w = window_for(y, c, z);
-    let o = conv_outputs(y, c, z);
+    let weighing = c.weighing;
+    let o = outputs_for(y, c.filters as usize, weighing, z);
     let output = y.output;
     let across = output.columns;
     let filters = o.count;
@@ -127,12 +111,12 @@ fn plain_row(
     from: usize,
     i: usize,
 )
-    requires { ⌜ ConvReady y c (now file) (now sums) ⌝ }
-    requires { ⌜ Placed y (length (now area)) from ⌝ }
-    requires { ⌜ (i < y .output .rows) × ((c .frame .height ≡ 1) × (c .frame .width ≡ 1) × (c .frame .stride ≡ 1)) ⌝ }
+    requires { ⌜ ConvRowReady y c (now file) (now sums) (length (now area)) from i ⌝ }
+    requires { ⌜ (c .frame .height ≡ 1) × (c .frame .width ≡ 1) × (c .frame .stride ≡ 1) ⌝ }
     ensures { λ _. ⌜ now (area .exit) ≡ pasted (now (area .entry)) (y .place + i * rowBytes (y .output)) (convRow y c z (now (file .entry)) (now (sums .entry)) (tensorAt (now (area .entry)) from (y .input)) i) ⌝ }
 {
-    let o = conv_outputs(y, c, z);
+    let weighing = c.weighing;
+    let o = outputs_for(y, c.filters as usize, weighing, z);
     let input = y.input;
     let across = input.columns;
     let n = input.channels;
@@ -160,9 +144,8 @@ pub fn conv_row(
     from: usize,
     i: usize,
 )
-    requires { ⌜ ConvReady y c (now file) (now sums) ⌝ }
-    requires { ⌜ Placed y (length (now area)) from ⌝ }
-    requires { ⌜ (i < y .output .rows) × (12544 ≤ length (now patch)) ⌝ }
+    requires { ⌜ ConvRowReady y c (now file) (now sums) (length (now area)) from i ⌝ }
+    requires { ⌜ windowMost ≤ length (now patch) ⌝ }
     ensures { λ _. ⌜ now (area .exit) ≡ pasted (now (area .entry)) (y .place + i * rowBytes (y .output)) (convRow y c z (now (file .entry)) (now (sums .entry)) (tensorAt (now (area .entry)) from (y .input)) i) ⌝ }
 {
     if c.frame.height == 1 {

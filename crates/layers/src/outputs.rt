@@ -3,48 +3,65 @@ ghost use mathlib.Core.Path.{_≡_};
 ghost use Prim.Native.Nat.{_+_, _*_, _^_, _≤_, _<_};
 ghost use lib.IntN.{natAbs};
 ghost use lib.ListN.{length};
+ghost use Rattle.numbers.specs.Limits.{fileMost, tensorMost};
 ghost use Rattle.numbers.specs.Total.{sum, totalOf};
-ghost use Rattle.numbers.specs.Rescale.{rescaled};
-ghost use Rattle.numbers.specs.Finish.{finished};
-ghost use Rattle.windows.specs.Lists.{pasted, part, Apart};
-ghost use Rattle.layers.specs.Outputs.{OutputsReady, outputOf, outputsOf};
+ghost use Rattle.lists.specs.Lists.{pasted, part};
+ghost use Rattle.lists.specs.Asked.{Apart};
+ghost use Rattle.layers.specs.Asked.{OutputsReady};
+ghost use Rattle.records.specs.Asked.{WeighingOk};
+ghost use Rattle.layers.specs.Outputs.{outputsFor, byteBy, outputOf, outputsOf};
 use fields::bytes::signed_of;
 use fields::bytes::u32_at;
 use numbers::finish::finish;
 use numbers::rescale::rescale;
 use numbers::total::total;
-use records::layer::Scale;
-use windows::sums::byte_total;
-use windows::sums::dot;
+use records::layer::Layer;
+use records::layer::biases_at;
+use records::layer::weights_at;
+use records::weighing::Weighing;
+use windows::dots::byte_total;
+use windows::dots::dot;
 
 // How many outputs there are; where their biases and weights begin in the file and their sums in the store; z is the
-// input's zero-point, v the weights' and zero the output's.
+// input's zero-point.
 pub struct Outputs {
     pub count: usize,
     pub biases: usize,
     pub weights: usize,
     pub sums: usize,
     pub z: u8,
-    pub v: u8,
-    pub zero: u8,
-    pub low: u8,
-    pub high: u8,
-    pub scale: Scale,
+    pub weighing: Weighing,
+}
+
+// What the outputs of a layer need, so many of them, with the input's zero-point z.
+pub fn outputs_for(y: Layer, count: usize, weighing: Weighing, z: u8) -> Outputs
+    requires { ⌜ y .start ≤ fileMost ⌝ }
+    ensures { λ r. ⌜ r ≡ outputsFor y count weighing z ⌝ }
+{
+    Outputs {
+        count,
+        biases: biases_at(y),
+        weights: weights_at(y),
+        sums: y.sums,
+        z,
+        weighing,
+    }
 }
 
 // One output byte, of a window q with the byte total Σq, and of an output's weights, bias and stored sum.
 fn output(o: Outputs, q: &[u8], w: &[u8], bytes: u32, bias: i32, stored: u32) -> u8
-    requires { ⌜ (length (now q) ≡ length (now w)) × (length (now q) ≤ 16384) × (bytes ≡ sum (now q)) ⌝ }
+    requires { ⌜ (length (now q) ≡ length (now w)) × (length (now q) ≤ tensorMost) × (bytes ≡ sum (now q)) ⌝ }
     requires { ⌜ (natAbs bias ≤ 2 ^ 30) × (stored ≤ 255 * length (now q)) ⌝ }
-    requires { ⌜ (o .low ≤ o .high) × (o .scale .multiplier < 2 ^ 31) × (o .scale .shift < 32) ⌝ }
-    ensures { λ r. ⌜ r ≡ finished (rescaled (totalOf bias (now (q .entry)) (now (w .entry)) stored (o .z) (o .v)) (o .scale .multiplier) (o .scale .shift)) (o .zero) (o .low) (o .high) ⌝ }
+    requires { ⌜ WeighingOk (o .weighing) ⌝ }
+    ensures { λ r. ⌜ r ≡ byteBy (o .weighing) (totalOf bias (now (q .entry)) (now (w .entry)) stored (o .z) (o .weighing .v)) ⌝ }
 {
-    let a = total(bias, dot(q, w), bytes, stored, q.len() as u32, o.z, o.v);
+    let by = o.weighing;
+    let a = total(bias, dot(q, w), bytes, stored, q.len() as u32, o.z, by.v);
     finish(
-        rescale(a, o.scale.multiplier, o.scale.shift),
-        o.zero,
-        o.low,
-        o.high,
+        rescale(a, by.scale.multiplier, by.scale.shift),
+        by.zero,
+        by.low,
+        by.high,
     )
 }
 

@@ -1,10 +1,12 @@
-// A row, and a run of rows, of a layer of any kind.
+// A row, and several rows, of a layer of any kind.
 ghost use mathlib.Core.Path.{_≡_};
 ghost use Prim.Native.Nat.{_+_, _-_, _*_, _≤_, _<_};
 ghost use lib.ListN.{length};
+ghost use Rattle.numbers.specs.Asked.{windowMost};
 ghost use Rattle.fields.specs.Shape.{rowBytes};
-ghost use Rattle.windows.specs.Lists.{pasted, joined};
-ghost use Rattle.layers.specs.Row.{Ready, rowOf, tensorAt};
+ghost use Rattle.lists.specs.Lists.{pasted, joined};
+ghost use Rattle.layers.specs.Asked.{Ready};
+ghost use Rattle.layers.specs.Row.{rowOf, tensorAt};
 use crate::add::add_row;
 use crate::conv::conv_row;
 use crate::full::full_row;
@@ -26,14 +28,14 @@ pub fn put_row(
     i: usize,
 )
     requires { ⌜ Ready y (now file) (now sums) (length (now area)) from other ⌝ }
-    requires { ⌜ (i < y .output .rows) × (12544 ≤ length (now patch)) ⌝ }
+    requires { ⌜ (i < y .output .rows) × (windowMost ≤ length (now patch)) ⌝ }
     ensures { λ _. ⌜ now (area .exit) ≡ pasted (now (area .entry)) (y .place + i * rowBytes (y .output)) (rowOf y z zr (now (file .entry)) (now (sums .entry)) (tensorAt (now (area .entry)) from (y .input)) (tensorAt (now (area .entry)) other (y .input)) i) ⌝ }
 {
     let kind = y.kind;
     match kind {
-        Kind::Convolution(c) => conv_row(y, c, z, file, sums, area, patch, from, i),
-        Kind::Fully(f) => full_row(y, f, z, file, sums, area, from),
-        Kind::Addition(a) => add_row(y, a, z, zr, area, from, other, i),
+        Kind::Conv(c) => conv_row(y, c, z, file, sums, area, patch, from, i),
+        Kind::Full(f) => full_row(y, f, z, file, sums, area, from),
+        Kind::Add(a) => add_row(y, a, z, zr, area, from, other, i),
     }
 }
 
@@ -52,7 +54,7 @@ pub fn put_rows(
     end: usize,
 )
     requires { ⌜ Ready y (now file) (now sums) (length (now area)) from other ⌝ }
-    requires { ⌜ (first ≤ end) × (end ≤ y .output .rows) × (12544 ≤ length (now patch)) ⌝ }
+    requires { ⌜ (first ≤ end) × (end ≤ y .output .rows) × (windowMost ≤ length (now patch)) ⌝ }
     ensures { λ _. ⌜ now (area .exit) ≡ pasted (now (area .entry)) (y .place + first * rowBytes (y .output)) (joined (end - first) (λ k. rowOf y z zr (now (file .entry)) (now (sums .entry)) (tensorAt (now (area .entry)) from (y .input)) (tensorAt (now (area .entry)) other (y .input)) (first + k))) ⌝ }
 {
     let mut i = first;

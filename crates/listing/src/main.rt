@@ -6,6 +6,6 @@ fn main() {
     let mut file = [0u8; 65537];
     let mut out = [0u8; 1024];
     let n = io::read_full(STDIN_FILENO, &mut file);
-    let length = table::list(&file[..n], &mut out);
+    let length = lines::list(&file[..n], &mut out);
     io::write_all(STDOUT_FILENO, &out[..length]);
 }

@@ -8,10 +8,13 @@ use lib.ListN.{getD}
 use Rattle.fields.specs.Shape.{bytesOf}
 use Rattle.fields.specs.declared.shape.Shape.{Shape}
 use Rattle.fields.proofs.Shapes.{mul-most}
-use Rattle.records.specs.Layer.{sumsOf, termsOf, KindOk}
+use Rattle.records.specs.Layer.{sumsOf, termsOf}
+use Rattle.records.specs.Asked.{KindOk}
+use Rattle.records.specs.Weighing.{weighingAt}
 use Rattle.records.specs.Reader.{kindAt}
+use Rattle.records.specs.declared.weighing.Weighing.{Weighing}
 use Rattle.records.specs.declared.layer.Kind.{Kind}
-use Rattle.records.specs.declared.layer.Kind.the-variants.{Convolution, Fully, Addition}
+use Rattle.records.specs.declared.layer.Kind.the-variants.{Conv, Full, Add}
 use Rattle.records.specs.declared.mark.Mark.{Mark}
 use Rattle.records.specs.declared.mark.Mark.the-variants.{CV, FU, AD, Other}
 use Rattle.records.proofs.Ranges.{sums-few as sums-by}
@@ -21,12 +24,12 @@ use Rattle.network.specs.declared.net.Network.{Network}
 
 -- N is at most 7 × 7 × 256, or the bytes of the input
 terms-by : (k : Kind) (i : Shape) → KindOk k → i .channels ≤ 256 → bytesOf i ≤ 16384 → termsOf k i ≤ 16384
-terms-by (Convolution c) i ok h b =
+terms-by (Conv c) i ok h b =
     let f = c .frame in
     let window = mul-most (f .height) (f .width) 7 7 (ok .frame .height-few) (ok .frame .width-few) in
     omega (arith, mul-most (f .height * f .width) (i .channels) 49 256 (omega (arith, window)) h)
-terms-by (Fully f) i ok h b = b
-terms-by (Addition a) i ok h b = omega arith
+terms-by (Full f) i ok h b = b
+terms-by (Add a) i ok h b = omega arith
 
 module _ (s : List ℕ) (n : Network) (t : Taken s n) where
   pub sums-few : (m : ℕ) → m < n .count → sumsOf (layerOf n m .kind) ≤ 256
@@ -41,21 +44,27 @@ module _ (s : List ℕ) (n : Network) (t : Taken s n) where
       (omega (arith, ap bytesOf (y .input), good .bytes-few))
 
 -- zero-points that are bytes: that of the weights, and that of what the layer makes
+abbrev WeighingZeros : Weighing → Type 0
+WeighingZeros w = (w .v ≤ 255) × (w .zero ≤ 255)
+
 abbrev pub ByteZeros : Kind → Type 0
-ByteZeros (Convolution c) = (c .v ≤ 255) × (c .zero ≤ 255)
-ByteZeros (Fully f) = (f .v ≤ 255) × (f .zero ≤ 255)
-ByteZeros (Addition a) = a .zero ≤ 255
+ByteZeros (Conv c) = WeighingZeros (c .weighing)
+ByteZeros (Full f) = WeighingZeros (f .weighing)
+ByteZeros (Add a) = a .zero ≤ 255
 
 zero-by : (k : Kind) (z : ℕ) → ByteZeros k → zeroBy k z ≤ 255
-zero-by (Convolution c) z h = h .1
-zero-by (Fully f) z h = h .1
-zero-by (Addition a) z h = h
+zero-by (Conv c) z h = h .1
+zero-by (Full f) z h = h .1
+zero-by (Add a) z h = h
 
 -- a file of bytes has them
 module _ (s : List ℕ) (bytes : (i : ℕ) → getD s i 0 ≤ 255) where
+  weighing-zeros : (from multiplier : ℕ) → WeighingZeros (weighingAt s from multiplier)
+  weighing-zeros from multiplier = (bytes from, bytes (from + 1))
+
   byte-zeros : (m : Mark) (at : ℕ) → ByteZeros (kindAt m s at)
-  byte-zeros CV at = (bytes (at + 7), bytes (at + 8))
-  byte-zeros FU at = (bytes (at + 4), bytes (at + 5))
+  byte-zeros CV at = weighing-zeros (at + 7) (at + 12)
+  byte-zeros FU at = weighing-zeros (at + 4) (at + 10)
   byte-zeros AD at = bytes (at + 3)
   byte-zeros Other at = (omega arith, omega arith)
 

@@ -1,4 +1,4 @@
--- Files with the number that each is refused with, 0 for one that is taken, by computing.
+-- Files with the number that each is refused with, 0 for one that is taken, by computing. P11 and P12 are in the table of `facts`.
 -- Assumes nothing.
 use Prim.Native.Nat.{ℕ}
 use mathlib.Core.Path.{_≡_, refl}
@@ -13,7 +13,7 @@ use Rattle.records.specs.Frame.{fits, frameOutput}
 use Rattle.records.specs.Reader.{ownFault, suitFault, answer, readAs}
 use Rattle.network.specs.Network.{layerOf}
 use Rattle.network.specs.Head.{pictureAt, headMark, headFault}
-use Rattle.network.specs.Decode.{readLayer, stopped, started, startOf, pushed, stepOf, runOf, endFault, decodedAs, decodeOf}
+use Rattle.network.specs.Decode.{readLayer, stopped, started, startOf, pushed, stepOf, stepsOf, endFault, decodedAs, decodeOf}
 use Rattle.network.specs.Replace.{agree, replaceFault}
 
 -- ---- records
@@ -57,12 +57,6 @@ kernel = set (set (set k 13 7) 14 7) 16 0
 
 abbrev pub cases : List (List ℕ × ℕ)
 cases =
-    -- K; P11; P12: less its last byte, with padding 2, with padding 3
-    (k, 0) ∷
-    (biased, 2) ∷
-    (take 38 k, 1) ∷
-    (set k 16 2, 0) ∷
-    (set k 16 3, 2) ∷
     -- the bias 2^30, −2^30, −2^30 − 1
     (set k 29 0x40, 0) ∷
     (set k 29 0xC0, 0) ∷
@@ -133,7 +127,7 @@ replacements =
     (tiny ++ add, set add 21 1, 9) ∷ []
 
 pub refused :
-    (map (λ c. decodeOf (c .0) .refusal) cases ≡ map (λ c. c .1) cases) ×
+    (map (λ c. decodeOf (c .0) .fault) cases ≡ map (λ c. c .1) cases) ×
     (map (λ c. replaceFault (c .0) (layerOf (decodeOf (c .0) .network) 0) (c .1)) replacements ≡ map (λ c. c .2) replacements)
-unfolding signed first within biasFault clampFault paddingFault spareFault cutFault isMark markAt bytesOf sizeFault sameShape biasFaults storedLen storedFault fits frameOutput ownFault suitFault answer readAs pictureAt headMark headFault readLayer stopped started startOf pushed stepOf runOf endFault decodedAs decodeOf agree replaceFault
+unfolding signed first within biasFault clampFault paddingFault spareFault cutFault isMark markAt bytesOf sizeFault sameShape biasFaults storedLen storedFault fits frameOutput ownFault suitFault answer readAs pictureAt headMark headFault readLayer stopped started startOf pushed stepOf stepsOf endFault decodedAs decodeOf agree replaceFault
 refused = (refl, refl)

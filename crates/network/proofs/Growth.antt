@@ -7,7 +7,8 @@ use native.Mathlib.Omega.{arith}
 use borrow.Author.Count.{below-more}
 use lib.ListN.{length}
 use lib.Seq.{getD-set-same, getD-set-other}
-use Rattle.fields.specs.Shape.{bytesOf, GoodShape}
+use Rattle.fields.specs.Shape.{bytesOf}
+use Rattle.fields.specs.Asked.{GoodShape}
 use Rattle.records.specs.Layer.{sumsOf, otherOf, recordLen}
 use Rattle.records.specs.declared.layer.Layer.{Layer}
 use Rattle.network.specs.Network.{blankLayer, layerOf, tensorOf, placeOf}

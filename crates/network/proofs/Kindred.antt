@@ -4,6 +4,7 @@ use Prim.Native.Nat.{ℕ, zero, suc, _+_, _-_, _*_, _≤_, _<_}
 use mathlib.Core.Path.{_≡_, refl, sym, _∙_, ap, subst}
 use mathlib.Core.Bool.{true}
 use mathlib.Core.List.{List}
+use native.Mathlib.Nat.{add-zero, add-assoc}
 use native.Mathlib.Omega.{arith}
 use borrow.Author.Count.{below-more}
 use borrow.Author.Tests.{eqb-true}
@@ -13,10 +14,12 @@ use Rattle.fields.specs.Stored.{biasFaults}
 use Rattle.fields.specs.declared.shape.Shape.{Shape}
 use Rattle.fields.proofs.Tests.{first-both, and-both, unless-none}
 use Rattle.records.specs.Mark.{isMark, markAt, fixedLen, agreeing}
+use Rattle.records.specs.Weighing.{weighingAt}
+use Rattle.records.specs.Conv.{blankConv}
 use Rattle.records.specs.Layer.{sumsOf, termsOf, outputShape, otherOf, recordLen}
 use Rattle.records.specs.Reader.{kindAt, ownFault, suitFault}
 use Rattle.records.specs.declared.layer.Kind.{Kind}
-use Rattle.records.specs.declared.layer.Kind.the-variants.{Convolution, Fully, Addition}
+use Rattle.records.specs.declared.layer.Kind.the-variants.{Conv, Full, Add}
 use Rattle.records.specs.declared.layer.Layer.{Layer}
 use Rattle.records.specs.declared.mark.Mark.{Mark}
 use Rattle.records.specs.declared.mark.Mark.the-variants.{CV, FU, AD, Other}
@@ -27,28 +30,33 @@ use Rattle.network.proofs.Rewritten.{Same}
 -- ---- the same bytes make the same numbers
 
 module _ (t : List ℕ) (at : ℕ) (u : List ℕ) (q n : ℕ) (e : Same t at u q n) where
-  -- byte i, at the places a and b
-  same-byte : (i a b : ℕ) → i < n → a ≡ at + i → b ≡ q + i → byteAt t a ≡ byteAt u b
-  same-byte i a b h x y = ap (byteAt t) x ∙ e i h ∙ ap (byteAt u) (sym y)
+  -- byte i from byte f on
+  same-after : (f i : ℕ) → f + i < n → byteAt t (at + f + i) ≡ byteAt u (q + f + i)
+  same-after f i h = rw (add-assoc at f i, add-assoc q f i) (e (f + i) h)
 
   -- the same mark, where as many bytes are left
   pub same-mark : 2 ≤ n → length t - at ≡ length u - q → markAt t at ≡ markAt u q
   unfolding markAt isMark
-  same-mark h l = cc (same-byte 0 at q (omega arith) (omega arith) (omega arith), e 1 (omega arith))
+  same-mark h l = cc (e 0 (omega arith), add-zero at, add-zero q, e 1 (omega arith))
 
-  -- the same numbers of two and of four bytes, from byte i
-  same-u16 : (i : ℕ) → i + 2 ≤ n → u16At t (at + i) ≡ u16At u (q + i)
-  same-u16 i h = cc (e i (omega arith), same-byte (i + 1) (at + i + 1) (q + i + 1) (omega arith) (omega arith) (omega arith))
+  -- the same numbers of two and of four bytes, from byte f
+  same-u16 : (f : ℕ) → f + 2 ≤ n → u16At t (at + f) ≡ u16At u (q + f)
+  same-u16 f h = cc (e f (omega arith), same-after f 1 (omega arith))
 
-  same-u32 : (i : ℕ) → i + 4 ≤ n → u32At t (at + i) ≡ u32At u (q + i)
-  same-u32 i h = cc (
-    e i (omega arith),
-    same-byte (i + 1) (at + i + 1) (q + i + 1) (omega arith) (omega arith) (omega arith),
-    same-byte (i + 2) (at + i + 2) (q + i + 2) (omega arith) (omega arith) (omega arith),
-    same-byte (i + 3) (at + i + 3) (q + i + 3) (omega arith) (omega arith) (omega arith),
-  )
+  same-u32 : (f : ℕ) → f + 4 ≤ n → u32At t (at + f) ≡ u32At u (q + f)
+  same-u32 f h = cc (e f (omega arith), same-after f 1 (omega arith), same-after f 2 (omega arith), same-after f 3 (omega arith))
 
   -- the same parameters
+  same-weighing : (f g : ℕ) → f + 5 ≤ n → g + 4 ≤ n → weighingAt t (at + f) (at + g) ≡ weighingAt u (q + f) (q + g)
+  same-weighing f g h k = cc (
+    e f (omega arith),
+    same-after f 1 (omega arith),
+    same-after f 2 (omega arith),
+    same-after f 3 (omega arith),
+    same-after f 4 (omega arith),
+    same-u32 g k,
+  )
+
   pub same-kind : (m : Mark) → fixedLen m ≤ n → kindAt m t at ≡ kindAt m u q
   same-kind CV h = cc (
     e 2 (omega arith),
@@ -56,22 +64,9 @@ module _ (t : List ℕ) (at : ℕ) (u : List ℕ) (q n : ℕ) (e : Same t at u q
     e 4 (omega arith),
     e 5 (omega arith),
     e 6 (omega arith),
-    e 7 (omega arith),
-    e 8 (omega arith),
-    e 9 (omega arith),
-    e 10 (omega arith),
-    e 11 (omega arith),
-    same-u32 12 (omega arith),
+    same-weighing 7 12 (omega arith) (omega arith),
   )
-  same-kind FU h = cc (
-    same-u16 2 (omega arith),
-    e 4 (omega arith),
-    e 5 (omega arith),
-    e 6 (omega arith),
-    e 7 (omega arith),
-    e 8 (omega arith),
-    same-u32 10 (omega arith),
-  )
+  same-kind FU h = cc (same-u16 2 (omega arith), same-weighing 4 10 (omega arith) (omega arith))
   same-kind AD h = cc (
     e 2 (omega arith),
     e 3 (omega arith),
@@ -98,34 +93,17 @@ module _ (t : List ℕ) (at : ℕ) (u : List ℕ) (q n : ℕ) (e : Same t at u q
   pub same-biases : (f k : ℕ) → f + 4 * k ≤ n → biasFaults t (at + f) k ≡ biasFaults u (q + f) k
   unfolding biasFaults
   same-biases f zero h = refl
-  same-biases f (suc k) h =
-      let x : at + f + 4 ≡ at + (f + 4) = omega arith in
-      let y : q + f + 4 ≡ q + (f + 4) = omega arith in
-      cc (same-u32 f (omega arith), same-biases (f + 4) k (omega arith))
+  same-biases f (suc k) h = cc (same-u32 f (omega arith), same-biases (f + 4) k (omega arith), add-assoc at f 4, add-assoc q f 4)
 
 -- ---- what two records of one mark have in common
 
 -- parameters without what a replacement may change: what is left is filters and frame, outputs, or the other tensor
 abbrev pub bare : Kind → Kind
-bare (Convolution c) = Convolution (record {
-  filters = c .filters;
-  frame = c .frame;
-  v = 0;
-  zero = 0;
-  low = 0;
-  high = 0;
-  scale = record { multiplier = 0; shift = 0 };
-})
-bare (Fully f) = Fully (record { outputs = f .outputs; v = 0; zero = 0; low = 0; high = 0; scale = record { multiplier = 0; shift = 0 } })
-bare (Addition a) = Addition (record {
-  other = a .other;
-  zero = 0;
-  low = 0;
-  high = 0;
-  first = record { multiplier = 0; shift = 0 };
-  second = record { multiplier = 0; shift = 0 };
-  third = record { multiplier = 0; shift = 0 };
-})
+bare (Conv c) = Conv (record { filters = c .filters; frame = c .frame; weighing = blankConv .weighing })
+bare (Full f) = Full (record { outputs = f .outputs; weighing = blankConv .weighing })
+bare (Add a) =
+    let none = blankConv .weighing .scale in
+    Add (record { other = a .other; zero = 0; low = 0; high = 0; first = none; second = none; third = none })
 
 -- two kinds that differ at most in what a replacement may change
 abbrev pub Kindred : Kind → Kind → Type 0
@@ -140,38 +118,38 @@ module _ (k κ : Kind) (h : Kindred k κ) where
   pub kindred-sums : sumsOf κ ≡ sumsOf k
   kindred-sums = kindred-same sumsOf by-kind k κ h where
     by-kind : (x : Kind) → sumsOf (bare x) ≡ sumsOf x
-    by-kind (Convolution c) = refl
-    by-kind (Fully f) = refl
-    by-kind (Addition a) = refl
+    by-kind (Conv c) = refl
+    by-kind (Full f) = refl
+    by-kind (Add a) = refl
 
   pub kindred-terms : (i : Shape) → termsOf κ i ≡ termsOf k i
   kindred-terms i = kindred-same (λ x. termsOf x i) by-kind k κ h where
     by-kind : (x : Kind) → termsOf (bare x) i ≡ termsOf x i
-    by-kind (Convolution c) = refl
-    by-kind (Fully f) = refl
-    by-kind (Addition a) = refl
+    by-kind (Conv c) = refl
+    by-kind (Full f) = refl
+    by-kind (Add a) = refl
 
   pub kindred-output : (i : Shape) → outputShape κ i ≡ outputShape k i
   kindred-output i = kindred-same (λ x. outputShape x i) by-kind k κ h where
     by-kind : (x : Kind) → outputShape (bare x) i ≡ outputShape x i
-    by-kind (Convolution c) = refl
-    by-kind (Fully f) = refl
-    by-kind (Addition a) = refl
+    by-kind (Conv c) = refl
+    by-kind (Full f) = refl
+    by-kind (Add a) = refl
 
   pub kindred-other : (m : ℕ) → otherOf κ m ≡ otherOf k m
   kindred-other m = kindred-same (λ x. otherOf x m) by-kind k κ h where
     by-kind : (x : Kind) → otherOf (bare x) m ≡ otherOf x m
-    by-kind (Convolution c) = refl
-    by-kind (Fully f) = refl
-    by-kind (Addition a) = refl
+    by-kind (Conv c) = refl
+    by-kind (Full f) = refl
+    by-kind (Add a) = refl
 
   pub kindred-suit : (b : Before) (other : Shape) → suitFault κ b other ≡ suitFault k b other
   unfolding suitFault
   kindred-suit b other = kindred-same (λ x. suitFault x b other) by-kind k κ h where
     by-kind : (x : Kind) → suitFault (bare x) b other ≡ suitFault x b other
-    by-kind (Convolution c) = refl
-    by-kind (Fully f) = refl
-    by-kind (Addition a) = refl
+    by-kind (Conv c) = refl
+    by-kind (Full f) = refl
+    by-kind (Add a) = refl
 
 -- records that agree in the bytes that must are of kindred kinds
 pub agree-kindred : (m : Mark) (s : List ℕ) (at : ℕ) (u : List ℕ) (q : ℕ) → Same s at u q (agreeing m) → Kindred (kindAt m s at) (kindAt m u q)

@@ -2,10 +2,11 @@
 pub mod Bounds
 pub mod Examples
 pub mod Growth
+pub mod Made
 pub mod Marked
 pub mod Places
 pub mod Replaced
-pub mod Runs
+pub mod Layers
 pub mod Taken
 pub mod Rewritten
 pub mod Kindred

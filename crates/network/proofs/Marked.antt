@@ -8,12 +8,13 @@ use native.Mathlib.Nat.{min-eq-left}
 use lib.IntN.{natAbs}
 use lib.ListN.{length}
 use Rattle.fields.specs.Bytes.{i32At}
-use Rattle.fields.specs.Shape.{bytesOf, GoodShape}
+use Rattle.fields.specs.Shape.{bytesOf}
+use Rattle.fields.specs.Asked.{GoodShape}
 use Rattle.records.specs.Mark.{markAt}
 use Rattle.records.specs.Layer.{sumsOf, otherOf, biasesAt, recordLen}
 use Rattle.records.specs.Reader.{kindAt, suitFault}
 use Rattle.records.specs.declared.layer.Kind.{Kind}
-use Rattle.records.specs.declared.layer.Kind.the-variants.{Convolution, Fully, Addition}
+use Rattle.records.specs.declared.layer.Kind.the-variants.{Conv, Full, Add}
 use Rattle.records.specs.declared.layer.Layer.{Layer}
 use Rattle.records.specs.declared.reader.Read.the-variants.{Found}
 use Rattle.records.proofs.Ranges.{own-ok, suits-fit, add-suits}
@@ -43,10 +44,10 @@ other-suits :
     (n : Network) (made : ℕ) (k : Kind) →
     suitFault k (beforeOf n made) (otherShape n k made) ≡ 0 →
     (otherOf k made ≤ made) × (tensorOf n (otherOf k made) ≡ tensorOf n made)
-other-suits n made (Convolution c) h = (omega arith, refl)
-other-suits n made (Fully f) h = (omega arith, refl)
-other-suits n made (Addition a) h =
-    let p = add-suits a (beforeOf n made) (otherShape n (Addition a) made) h in
+other-suits n made (Conv c) h = (omega arith, refl)
+other-suits n made (Full f) h = (omega arith, refl)
+other-suits n made (Add a) h =
+    let p = add-suits a (beforeOf n made) (otherShape n (Add a) made) h in
     (p .0, sym (ap (tensorOf n) (min-eq-left (p .0))) ∙ p .1)
 
 module _ (s : List ℕ) (at : ℕ) (n : Network) (made : ℕ) (h : at ≤ length s) (g : GoodShape (tensorOf n made)) where

@@ -17,17 +17,17 @@ use Rattle.records.specs.declared.reader.Read.the-variants.{Found}
 use Rattle.fields.proofs.Tests.{first-both}
 use Rattle.network.specs.Network.{blankLayer, layerOf, tensorOf}
 use Rattle.network.specs.Head.{pictureAt, headMark, headFault}
-use Rattle.network.specs.Decode.{readLayer, pushed, runOf, startOf, endFault, decodeOf}
+use Rattle.network.specs.Decode.{readLayer, pushed, stepsOf, startOf, endFault, decodeOf}
 use Rattle.network.specs.Replace.{replaceFault}
 use Rattle.network.specs.declared.net.Network.{Network}
 use Rattle.network.specs.declared.file.Progress.{Progress}
 use Rattle.network.specs.declared.file.Decoded.{Decoded}
-use Rattle.network.proofs.Runs.{start-fine}
+use Rattle.network.proofs.Layers.{start-fine}
 use Rattle.network.proofs.Taken.{taken}
 use Rattle.network.proofs.Rewritten.{rewritten, rewritten-length, byte-before, byte-within, byte-after, Same}
 use Rattle.network.proofs.Kindred.{kindred-sums, layerAs, Fit, fit-kindred, replace-fit}
 use Rattle.network.proofs.Passing.{found-at, found-read, found-again, found-same}
-use Rattle.network.proofs.Steps.{Steps, here, more, run-steps, steps-run, kept-count, next-layer, later-start, atEnd, taken-end, end-taken}
+use Rattle.network.proofs.Steps.{Steps, here, more, steps-of, of-steps, kept-count, next-layer, later-start, atEnd, taken-end, end-taken}
 
 -- the network with other parameters at layer k
 abbrev pub withKind : Network → ℕ → Kind → Network
@@ -42,7 +42,7 @@ withKind n k κ = record {
 
 -- a file read so far, with other parameters at layer k
 abbrev withKindAt : Progress → ℕ → Kind → Progress
-withKindAt p k κ = record { refusal = p .refusal; at = p .at; made = p .made; network = withKind (p .network) k κ }
+withKindAt p k κ = record { fault = p .fault; at = p .at; made = p .made; network = withKind (p .network) k κ }
 
 module _ (n : Network) (k : ℕ) (κ : Kind) where
   -- what of a layer does not depend on its parameters stays, for every layer
@@ -191,35 +191,35 @@ end-same s t at long = cc
 -- a file that is so written is taken again
 written-decodes :
     (s t : List ℕ) (k : ℕ) (r : List ℕ) →
-    decodeOf s .refusal ≡ 0 →
+    decodeOf s .fault ≡ 0 →
     k < atEnd s .network .count →
     Written s t (layerOf (atEnd s .network) k) r →
-    decodeOf t ≡ record { refusal = 0; network = withKind (atEnd s .network) k (kindAt (layerOf (atEnd s .network) k .mark) r 0) }
+    decodeOf t ≡ record { fault = 0; network = withKind (atEnd s .network) k (kindAt (layerOf (atEnd s .network) k .mark) r 0) }
 written-decodes s t k r good few w =
     let p = startOf s in
     let κ = kindAt (layerOf (atEnd s .network) k .mark) r 0 in
     let end = taken-end s good in
-    let run = run-steps s (p .network .count) p (first-both _ _ (end .1) .0) in
-    let ready = start-fine s (run .0) in
+    let all = steps-of s (p .network .count) p (first-both _ _ (end .1) .0) in
+    let ready = start-fine s (all .0) in
     let none : p .made ≡ 0 = omega arith in
     let ten : p .at ≡ 10 = rw none at (ready .sofar .at-is) in
-    let known : k < p .network .count = omega (arith, kept-count (run .1)) in
+    let known : k < p .network .count = omega (arith, kept-count (all .1)) in
     let there : k < length (p .network .layers) = omega arith in
-    let begins = later-start (run .1) k k known (omega arith) there in
-    let again = steps-again s t r k (run .1) k known (omega arith) there w in
+    let begins = later-start (all .1) k k known (omega arith) there in
+    let again = steps-again s t r k (all .1) k known (omega arith) there w in
     let start = start-same s t (w .long) (λ i h. w .before i (omega arith)) in
     end-taken t (withKindAt (atEnd s) k κ) (omega (arith, w .long))
-    (ap (λ (x : Progress). runOf t (x .network .count) x) start ∙ steps-run again (run .0))
-    (ap (first (atEnd s .refusal)) (end-same s t (atEnd s .at) (w .long)) ∙ end .1)
+    (ap (λ (x : Progress). stepsOf t (x .network .count) x) start ∙ of-steps again (all .0))
+    (ap (first (atEnd s .fault)) (end-same s t (atEnd s .at) (w .long)) ∙ end .1)
 
 -- the file with a record written over that of layer k, which it may replace: the same network, but for that layer's parameters
 pub replaced-decodes :
     (s : List ℕ) (k : ℕ) (r : List ℕ) →
-    decodeOf s .refusal ≡ 0 →
+    decodeOf s .fault ≡ 0 →
     k < decodeOf s .network .count →
     replaceFault s (layerOf (decodeOf s .network) k) r ≡ 0 →
     decodeOf (rewritten s (layerOf (decodeOf s .network) k .start) r)
-    ≡ record { refusal = 0; network = withKind (decodeOf s .network) k (kindAt (layerOf (decodeOf s .network) k .mark) r 0) }
+    ≡ record { fault = 0; network = withKind (decodeOf s .network) k (kindAt (layerOf (decodeOf s .network) k .mark) r 0) }
 replaced-decodes s k r good few fault =
     let y = layerOf (decodeOf s .network) k in
     let t = rewritten s (y .start) r in
@@ -228,7 +228,7 @@ replaced-decodes s k r good few fault =
     let f = replace-fit s y r fault in
     let h : y .start + length r ≤ length s = omega (arith, taken s good .layers k few .record-in, f .0) in
     subst⁻¹ (λ (n : Network).
-    k < n .count → Written s t (layerOf n k) r → decodeOf t ≡ record { refusal = 0; network = withKind n k (kindAt (layerOf n k .mark) r 0) }) e
+    k < n .count → Written s t (layerOf n k) r → decodeOf t ≡ record { fault = 0; network = withKind n k (kindAt (layerOf n k .mark) r 0) }) e
     (written-decodes s t k r good) few
     (record {
       long = rewritten-length s (y .start) r h;

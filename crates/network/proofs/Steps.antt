@@ -15,10 +15,10 @@ use Rattle.records.specs.declared.reader.Read.{Read}
 use Rattle.records.specs.declared.reader.Read.the-variants.{Refused, Found}
 use Rattle.records.proofs.Answers.{Answered}
 use Rattle.network.specs.Network.{blankLayer, layerOf}
-use Rattle.network.specs.Decode.{readLayer, startOf, stopped, pushed, stepRead, stepFrom, stepOf, runOf, endFault, decodedAs, ranOf, decodeOf}
+use Rattle.network.specs.Decode.{readLayer, startOf, stopped, pushed, stepRead, stepFrom, stepOf, stepsOf, endFault, decodedAs, wholeOf, decodeOf}
 use Rattle.network.specs.declared.file.Progress.{Progress}
 use Rattle.network.proofs.Passing.{FoundAt, read-found, found-at}
-use Rattle.network.proofs.Runs.{step-next, loop-ends}
+use Rattle.network.proofs.Layers.{step-next, loop-ends}
 
 -- n layers are found, from p on, and lead to q
 pub data Steps (s : List ℕ) : ℕ → Progress → Progress → Type 0 where
@@ -29,34 +29,34 @@ pub data Steps (s : List ℕ) : ℕ → Progress → Progress → Type 0 where
       Steps s n (pushed p l next) q →
       Steps s (suc n) p q
 
--- a run that is not refused is such steps
-pub run-steps : (s : List ℕ) (n : ℕ) (p : Progress) → runOf s n p .refusal ≡ 0 → (p .refusal ≡ 0) × Steps s n p (runOf s n p)
-unfolding runOf stepOf stopped
-run-steps s zero p h = (h, here)
-run-steps s (suc n) p h = from (p .refusal) refl (run-steps s n (stepOf s p) h) where
+-- the steps of a file that is not refused are such
+pub steps-of : (s : List ℕ) (n : ℕ) (p : Progress) → stepsOf s n p .fault ≡ 0 → (p .fault ≡ 0) × Steps s n p (stepsOf s n p)
+unfolding stepsOf stepOf stopped
+steps-of s zero p h = (h, here)
+steps-of s (suc n) p h = from (p .fault) refl (steps-of s n (stepOf s p) h) where
   after :
       (r : Read) →
       readLayer s (p .at) (p .network) (p .made) ≡ r →
       Answered (FoundAt s (p .at) (p .network) (p .made)) r →
       (q : Progress) →
-      (stepRead p r .refusal ≡ 0) × Steps s n (stepRead p r) q →
+      (stepRead p r .fault ≡ 0) × Steps s n (stepRead p r) q →
       Steps s (suc n) p q
   after (Refused m) e a q b = absurd (omega arith)
   after (Found l next) e a q b = more l next e (b .1)
 
   from :
       (k : ℕ) →
-      p .refusal ≡ k →
-      (stepFrom k s p .refusal ≡ 0) × Steps s n (stepFrom k s p) (runOf s n (stepOf s p)) →
-      (p .refusal ≡ 0) × Steps s (suc n) p (runOf s n (stepOf s p))
+      p .fault ≡ k →
+      (stepFrom k s p .fault ≡ 0) × Steps s n (stepFrom k s p) (stepsOf s n (stepOf s p)) →
+      (p .fault ≡ 0) × Steps s (suc n) p (stepsOf s n (stepOf s p))
   from zero e b = (e, after (readLayer s (p .at) (p .network) (p .made)) refl (read-found s (p .at) (p .network) (p .made)) _ b)
   from (suc k) e b = absurd (omega arith)
 
--- and such steps are a run
-pub steps-run : {s : List ℕ} {n : ℕ} {p q : Progress} → Steps s n p q → p .refusal ≡ 0 → runOf s n p ≡ q
-unfolding runOf pushed
-steps-run here h = refl
-steps-run {s} (more {n} {p} l next e r) h = ap (runOf s n) (sym (step-next s p (Found l next) h (sym e))) ∙ steps-run r refl
+-- and such are its steps
+pub of-steps : {s : List ℕ} {n : ℕ} {p q : Progress} → Steps s n p q → p .fault ≡ 0 → stepsOf s n p ≡ q
+unfolding stepsOf pushed
+of-steps here h = refl
+of-steps {s} (more {n} {p} l next e r) h = ap (stepsOf s n) (sym (step-next s p (Found l next) h (sym e))) ∙ of-steps r refl
 
 -- the number of layers stays
 pub kept-count : {s : List ℕ} {n : ℕ} {p q : Progress} → Steps s n p q → q .network .count ≡ p .network .count
@@ -109,23 +109,23 @@ later-start {s} (more {p = p} l next e r) k (suc i) b x h =
 
 -- ---- the whole file
 
--- where the run over the layers ends
+-- where the steps over the layers end
 abbrev pub atEnd : List ℕ → Progress
-atEnd s = runOf s (startOf s .network .count) (startOf s)
+atEnd s = stepsOf s (startOf s .network .count) (startOf s)
 
--- a file that is taken is short enough, and its run ends with no fault at the file's end
-pub taken-end : (s : List ℕ) → decodeOf s .refusal ≡ 0 → (length s ≤ 65536) × (first (atEnd s .refusal) (endFault s (atEnd s .at)) ≡ 0)
+-- a file that is taken is short enough, and its steps end with no fault at the file's end
+pub taken-end : (s : List ℕ) → decodeOf s .fault ≡ 0 → (length s ≤ 65536) × (first (atEnd s .fault) (endFault s (atEnd s .at)) ≡ 0)
 unfolding decodeOf decodedAs
 taken-end s = by-length (leb (length s) 65536) refl where
-  by-fault : (k : ℕ) → decodedAs k (atEnd s) .refusal ≡ 0 → k ≡ 0
+  by-fault : (k : ℕ) → decodedAs k (atEnd s) .fault ≡ 0 → k ≡ 0
   by-fault zero h = refl
   by-fault (suc k) h = h
 
   by-length :
       (b : Bool) →
       leb (length s) 65536 ≡ b →
-      cond b (ranOf s (startOf s)) (decodedAs 3 (stopped 3)) .refusal ≡ 0 →
-      (length s ≤ 65536) × (first (atEnd s .refusal) (endFault s (atEnd s .at)) ≡ 0)
+      cond b (wholeOf s (startOf s)) (decodedAs 3 (stopped 3)) .fault ≡ 0 →
+      (length s ≤ 65536) × (first (atEnd s .fault) (endFault s (atEnd s .at)) ≡ 0)
   by-length true e h = (leb-true _ _ e, by-fault _ h)
   by-length false e h = absurd (omega arith)
 
@@ -134,8 +134,8 @@ pub end-taken :
     (s : List ℕ) (q : Progress) →
     length s ≤ 65536 →
     atEnd s ≡ q →
-    first (q .refusal) (endFault s (q .at)) ≡ 0 →
-    decodeOf s ≡ record { refusal = 0; network = q .network }
-unfolding runOf decodedAs
+    first (q .fault) (endFault s (q .at)) ≡ 0 →
+    decodeOf s ≡ record { fault = 0; network = q .network }
+unfolding stepsOf decodedAs
 end-taken s q small ran fine =
     sym (loop-ends s q (startOf s) 0 (endFault s (q .at)) 0 _ small refl (omega arith) (sym ran) refl (sym fine) refl)

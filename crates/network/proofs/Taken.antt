@@ -10,11 +10,11 @@ use lib.Dec.{leb, eqb}
 use lib.ListN.{length}
 use Rattle.fields.specs.Faults.{first}
 use Rattle.fields.proofs.Tests.{first-both, unless-none}
-use Rattle.network.specs.Decode.{stopped, startOf, endFault, decodedAs, finishOf, ranOf, decodeOf}
+use Rattle.network.specs.Decode.{stopped, startOf, endFault, decodedAs, finishOf, wholeOf, decodeOf}
 use Rattle.network.specs.Taken.{Taken}
 use Rattle.network.specs.declared.file.Progress.{Progress}
 use Rattle.network.proofs.Growth.{endOf, sumsBefore}
-use Rattle.network.proofs.Runs.{Ready, Fine, start-fine, run-fine}
+use Rattle.network.proofs.Layers.{Ready, Fine, start-fine, steps-fine}
 
 -- nothing follows the last layer
 end-there : (s : List ℕ) (at : ℕ) → endFault s at ≡ 0 → at ≡ length s
@@ -53,23 +53,23 @@ finished-taken :
     (s : List ℕ) (p : Progress) →
     length s ≤ 65536 →
     Fine s 0 p →
-    finishOf s p .refusal ≡ 0 →
+    finishOf s p .fault ≡ 0 →
     Taken s (finishOf s p .network)
 unfolding decodedAs
-finished-taken s p small f = at-fault (first (p .refusal) (endFault s (p .at))) refl where
-  at-fault : (k : ℕ) → first (p .refusal) (endFault s (p .at)) ≡ k → decodedAs k p .refusal ≡ 0 → Taken s (decodedAs k p .network)
+finished-taken s p small f = at-fault (first (p .fault) (endFault s (p .at))) refl where
+  at-fault : (k : ℕ) → first (p .fault) (endFault s (p .at)) ≡ k → decodedAs k p .fault ≡ 0 → Taken s (decodedAs k p .network)
   at-fault zero e h =
       let q = first-both _ _ e in
       ready-taken s p small (f (q .0)) (end-there s (p .at) (q .1))
   at-fault (suc k) e h = absurd (omega arith)
 
-pub taken : (s : List ℕ) → decodeOf s .refusal ≡ 0 → Taken s (decodeOf s .network)
+pub taken : (s : List ℕ) → decodeOf s .fault ≡ 0 → Taken s (decodeOf s .network)
 unfolding decodeOf decodedAs
 taken s = by-length (leb (length s) 65536) refl where
   by-length :
       (b : Bool) →
       leb (length s) 65536 ≡ b →
-      cond b (ranOf s (startOf s)) (decodedAs 3 (stopped 3)) .refusal ≡ 0 →
-      Taken s (cond b (ranOf s (startOf s)) (decodedAs 3 (stopped 3)) .network)
-  by-length true e h = finished-taken s _ (leb-true _ _ e) (run-fine s _ (startOf s) (start-fine s)) h
+      cond b (wholeOf s (startOf s)) (decodedAs 3 (stopped 3)) .fault ≡ 0 →
+      Taken s (cond b (wholeOf s (startOf s)) (decodedAs 3 (stopped 3)) .network)
+  by-length true e h = finished-taken s _ (leb-true _ _ e) (steps-fine s _ (startOf s) (start-fine s)) h
   by-length false e h = absurd (omega arith)

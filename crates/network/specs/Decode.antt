@@ -1,14 +1,14 @@
 -- The whole file: its length, the head, the layers in order, and that nothing follows.
 -- Assumes nothing.
-use Prim.Native.Nat.{ℕ, zero, suc, _+_, _≤_, _<_, min}
-use mathlib.Core.Path.{_≡_}
+use Prim.Native.Nat.{ℕ, zero, suc, _+_, min}
 use mathlib.Core.Bool.{cond}
 use mathlib.Core.List.{List, [], _∷_}
 use lib.Dec.{leb, eqb}
 use lib.ListN.{length, set}
+use Rattle.numbers.specs.Limits.{fileMost}
 use Rattle.fields.specs.Faults.{unless, firstFault}
 use Rattle.fields.specs.Bytes.{byteAt}
-use Rattle.fields.specs.Shape.{bytesOf, GoodShape}
+use Rattle.fields.specs.Shape.{bytesOf}
 use Rattle.fields.specs.declared.shape.Shape.{Shape}
 use Rattle.records.specs.Mark.{markAt}
 use Rattle.records.specs.Layer.{sumsOf, otherOf}
@@ -43,10 +43,10 @@ readLayer s at n made = readMarked (markAt s at) s at n made
 
 -- a refusal: the number, and no network
 unfoldable pub stopped : ℕ → Progress
-stopped n = record { refusal = n; at = 0; made = 0; network = emptyNetwork blankShape 0 0 0 }
+stopped n = record { fault = n; at = 0; made = 0; network = emptyNetwork blankShape 0 0 0 }
 
 unfoldable pub started : ℕ → Shape → ℕ → ℕ → Progress
-started zero picture z count = record { refusal = 0; at = 10; made = 0; network = emptyNetwork picture z count (bytesOf picture) }
+started zero picture z count = record { fault = 0; at = 10; made = 0; network = emptyNetwork picture z count (bytesOf picture) }
 started (suc fault) picture z count = stopped (suc fault)
 
 unfoldable pub startOf : List ℕ → Progress
@@ -55,7 +55,7 @@ startOf s = started (headFault s) (pictureAt s) (byteAt s 7) (byteAt s 8)
 -- one more layer
 unfoldable pub pushed : Progress → Layer → ℕ → Progress
 pushed p l next = record {
-  refusal = 0;
+  fault = 0;
   at = next;
   made = p .made + 1;
   network = record {
@@ -78,38 +78,27 @@ stepFrom zero s p = stepRead p (readLayer s (p .at) (p .network) (p .made))
 stepFrom (suc n) s p = p
 
 unfoldable pub stepOf : List ℕ → Progress → Progress
-stepOf s p = stepFrom (p .refusal) s p
+stepOf s p = stepFrom (p .fault) s p
 
 -- n layers more
-unfoldable pub runOf : List ℕ → ℕ → Progress → Progress
-runOf s zero p = p
-runOf s (suc n) p = runOf s n (stepOf s p)
+unfoldable pub stepsOf : List ℕ → ℕ → Progress → Progress
+stepsOf s zero p = p
+stepsOf s (suc n) p = stepsOf s n (stepOf s p)
 
 -- nothing follows the last layer
 unfoldable pub endFault : List ℕ → ℕ → ℕ
 endFault s at = unless (eqb at (length s)) 1
 
 unfoldable pub decodedAs : ℕ → Progress → Decoded
-decodedAs zero p = record { refusal = 0; network = p .network }
-decodedAs (suc n) p = record { refusal = suc n; network = emptyNetwork blankShape 0 0 0 }
+decodedAs zero p = record { fault = 0; network = p .network }
+decodedAs (suc n) p = record { fault = suc n; network = emptyNetwork blankShape 0 0 0 }
 
 abbrev pub finishOf : List ℕ → Progress → Decoded
-finishOf s p = decodedAs (firstFault (p .refusal ∷ endFault s (p .at) ∷ [])) p
+finishOf s p = decodedAs (firstFault (p .fault ∷ endFault s (p .at) ∷ [])) p
 
-abbrev pub ranOf : List ℕ → Progress → Decoded
-ranOf s p = finishOf s (runOf s (p .network .count) p)
+abbrev pub wholeOf : List ℕ → Progress → Decoded
+wholeOf s p = finishOf s (stepsOf s (p .network .count) p)
 
 -- file length is tested first, then records in order, trailing bytes last
 unfoldable pub decodeOf : List ℕ → Decoded
-decodeOf s = cond (leb (length s) 65536) (ranOf s (startOf s)) (decodedAs 3 (stopped 3))
-
--- what the next record's reader needs of a file read so far
-pub record Next (s : List ℕ) (p : Progress) : Type 0 where
-  pub at-in : p .at ≤ length s
-  pub made-few : p .made < 16
-  pub area-few : p .network .area ≤ 65536
-  pub store-few : p .network .store ≤ 65536
-  pub last-good : GoodShape (tensorOf (p .network) (p .made))
-
-abbrev pub CanStep : List ℕ → Progress → Type 0
-CanStep s p = p .refusal ≡ 0 → Next s p
+decodeOf s = cond (leb (length s) fileMost) (wholeOf s (startOf s)) (decodedAs 3 (stopped 3))

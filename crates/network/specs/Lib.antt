@@ -4,3 +4,4 @@ pub mod Head
 pub mod Decode
 pub mod Replace
 pub mod Taken
+pub mod Asked

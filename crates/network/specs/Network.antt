@@ -3,10 +3,10 @@
 use Prim.Native.Nat.{ℕ, zero, suc}
 use lib.ListN.{getD, replicate}
 use Rattle.fields.specs.declared.shape.Shape.{Shape}
-use Rattle.records.specs.Reader.{blankConv}
+use Rattle.records.specs.Conv.{blankConv}
 use Rattle.records.specs.declared.mark.Mark.the-variants.{CV}
 use Rattle.records.specs.declared.layer.Kind.{Kind}
-use Rattle.records.specs.declared.layer.Kind.the-variants.{Convolution, Fully, Addition}
+use Rattle.records.specs.declared.layer.Kind.the-variants.{Conv, Full, Add}
 use Rattle.records.specs.declared.layer.Layer.{Layer}
 use Rattle.network.specs.declared.net.Network.{Network}
 
@@ -15,16 +15,9 @@ blankShape = record { rows = 0; columns = 0; channels = 0 }
 
 -- zero throughout, and of the first mark and kind: what a list of layers has past its end
 abbrev pub blankLayer : Layer
-blankLayer = record {
-  mark = CV;
-  input = blankShape;
-  output = blankShape;
-  kind = Convolution blankConv;
-  start = 0;
-  place = 0;
-  sums = 0;
-}
+blankLayer = record { mark = CV; kind = Conv blankConv; input = blankShape; output = blankShape; start = 0; place = 0; sums = 0 }
 
+-- a network of no layer yet
 abbrev pub emptyNetwork : Shape → ℕ → ℕ → ℕ → Network
 emptyNetwork picture z count area = record { picture = picture; zero = z; count = count; layers = replicate 16 blankLayer; area = area; store = 0 }
 
@@ -43,9 +36,9 @@ placeOf n (suc m) = layerOf n m .place
 
 -- the zero-point of what a layer makes, of its kind and its input's zero-point
 abbrev pub zeroBy : Kind → ℕ → ℕ
-zeroBy (Convolution c) z = c .zero
-zeroBy (Fully f) z = f .zero
-zeroBy (Addition a) z = a .zero
+zeroBy (Conv c) z = c .weighing .zero
+zeroBy (Full f) z = f .weighing .zero
+zeroBy (Add a) z = a .zero
 
 -- a tensor's own zero-point: the head's, or that of the layer which makes it
 abbrev pub zeroOf : Network → ℕ → ℕ

@@ -1,13 +1,16 @@
--- What is known of the network of a file that is taken: what the crates above rest on.
+-- What is known of the network of a file that is taken: what the crates above rest on. No promise of a call rests on it.
 -- Assumes nothing.
-use Prim.Native.Nat.{ℕ, zero, suc, _+_, _-_, _*_, _≤_, _<_, _^_}
+use Prim.Native.Nat.{ℕ, suc, _+_, _-_, _*_, _≤_, _<_, _^_}
 use mathlib.Core.Path.{_≡_}
 use mathlib.Core.List.{List}
 use lib.IntN.{natAbs}
 use lib.ListN.{length}
+use Rattle.numbers.specs.Limits.{fileMost, areaMost}
 use Rattle.fields.specs.Bytes.{byteAt, i32At}
-use Rattle.fields.specs.Shape.{bytesOf, GoodShape}
-use Rattle.records.specs.Layer.{sumsOf, outputShape, otherOf, KindOk, KindFits, biasesAt, recordLen}
+use Rattle.fields.specs.Shape.{bytesOf}
+use Rattle.fields.specs.Asked.{GoodShape}
+use Rattle.records.specs.Layer.{sumsOf, outputShape, otherOf, biasesAt, recordLen}
+use Rattle.records.specs.Asked.{KindOk, KindFits}
 use Rattle.records.specs.Reader.{kindAt}
 use Rattle.records.specs.declared.layer.Layer.{Layer}
 use Rattle.network.specs.Network.{layerOf, tensorOf, placeOf}
@@ -35,7 +38,7 @@ pub record LayerTaken (s : List ℕ) (n : Network) (m : ℕ) (y : Layer) : Type 
 
 -- the layers of a network after each other
 pub record Taken (s : List ℕ) (n : Network) : Type 0 where
-  pub file-few : length s ≤ 65536
+  pub file-few : length s ≤ fileMost
   pub count-some : 1 ≤ n .count
   pub count-few : n .count ≤ 16
   pub sixteen : length (n .layers) ≡ 16
@@ -53,5 +56,5 @@ pub record Taken (s : List ℕ) (n : Network) : Type 0 where
   pub next-sums : (m : ℕ) → suc m < n .count → layerOf n (suc m) .sums ≡ layerOf n m .sums + sumsOf (layerOf n m .kind)
   pub store-end : n .store ≡ layerOf n (n .count - 1) .sums + sumsOf (layerOf n (n .count - 1) .kind)
   pub area-end : n .area ≡ placeOf n (n .count) + bytesOf (tensorOf n (n .count))
-  pub area-few : n .area ≤ 65536
-  pub store-few : n .store ≤ 65536
+  pub area-few : n .area ≤ areaMost
+  pub store-few : n .store ≤ fileMost

@@ -1,11 +1,14 @@
 // The whole file: its length, the head, the layers in order, and that nothing follows.
 ghost use mathlib.Core.Path.{_≡_};
-ghost use Prim.Native.Nat.{_+_, _≤_, _<_, min};
+ghost use Prim.Native.Nat.{_+_, _≤_, _<_};
 ghost use lib.ListN.{length};
-ghost use Rattle.fields.specs.Shape.{GoodShape};
+ghost use Rattle.numbers.specs.Limits.{fileMost, areaMost};
+ghost use Rattle.numbers.specs.Asked.{channelsMost};
+ghost use Rattle.fields.specs.Asked.{GoodShape};
 ghost use Rattle.records.specs.Layer.{sumsOf};
 ghost use Rattle.network.specs.Network.{tensorOf};
-ghost use Rattle.network.specs.Decode.{CanStep, readLayer, startOf, pushed, stopped, stepOf, endFault, decodedAs, decodeOf};
+ghost use Rattle.network.specs.Asked.{CanStep};
+ghost use Rattle.network.specs.Decode.{readLayer, startOf, pushed, stopped, stepOf, endFault, decodedAs, decodeOf};
 use crate::head::head_fault;
 use crate::head::picture_at;
 use crate::net::Network;
@@ -15,6 +18,8 @@ use crate::net::tensor;
 use fields::faults::cut_fault;
 use fields::faults::first_of;
 use fields::shape::bytes_of;
+use numbers::limits::FILE_MOST;
+use numbers::small::smaller;
 use records::layer::Layer;
 use records::layer::other_of;
 use records::layer::sums_of;
@@ -26,31 +31,25 @@ use records::reader::fit_record;
 use records::reader::kind_at;
 use records::reader::own_fault;
 
-// A file read so far: the refusal number, or 0 with where the next record begins, how many layers there are, and the
+// A file read so far: the fault met, or 0 with where the next record begins, how many layers there are, and the
 // network of these.
 pub struct Progress {
-    pub refusal: u8,
+    pub fault: u8,
     pub at: usize,
     pub made: usize,
     pub network: Network,
 }
 
-// The answer: refusal 0 with the network, or the number of the first fault met with a network of no layer.
+// The answer: fault 0 with the network, or the number of the first fault met with a network of no layer.
 pub struct Decoded {
-    pub refusal: u8,
+    pub fault: u8,
     pub network: Network,
-}
-
-fn smaller(a: usize, b: usize) -> usize
-    ensures { λ r. ⌜ r ≡ min a b ⌝ }
-{
-    if a < b { a } else { b }
 }
 
 // The record of layer made + 1, which reads tensor made.
 fn read_layer(s: &[u8], at: usize, n: Network, made: usize) -> Read
     requires { ⌜ at ≤ length (now s) ⌝ }
-    requires { ⌜ (made < 16) × (n .area ≤ 65536) ⌝ }
+    requires { ⌜ (made < 16) × (n .area ≤ areaMost) ⌝ }
     requires { ⌜ GoodShape (tensorOf n made) ⌝ }
     ensures { λ r. ⌜ r ≡ readLayer (now (s .entry)) at n made ⌝ }
 {
@@ -77,18 +76,20 @@ fn read_layer(s: &[u8], at: usize, n: Network, made: usize) -> Read
     fit_record(mark, kind, s, at, b, other)
 }
 
+// A file that is refused.
 fn stopped_with(n: u8) -> Progress
     ensures { λ r. ⌜ r ≡ stopped n ⌝ }
 {
     let network = no_network();
     Progress {
-        refusal: n,
+        fault: n,
         at: 0,
         made: 0,
         network,
     }
 }
 
+// The head read.
 fn start(s: &[u8]) -> Progress
     ensures { λ r. ⌜ r ≡ startOf (now (s .entry)) ⌝ }
 {
@@ -100,7 +101,7 @@ fn start(s: &[u8]) -> Progress
     let area = bytes_of(picture);
     let network = empty_network(picture, s[7], s[8] as usize, area);
     Progress {
-        refusal: 0,
+        fault: 0,
         at: 10,
         made: 0,
         network,
@@ -109,8 +110,8 @@ fn start(s: &[u8]) -> Progress
 
 // One more layer.
 fn push(p: Progress, l: Layer, next: usize) -> Progress
-    requires { ⌜ (p .made < 16) × (p .network .area ≤ 65536) × (p .network .store ≤ 65536) ⌝ }
-    requires { ⌜ GoodShape (l .output) × (sumsOf (l .kind) ≤ 256) ⌝ }
+    requires { ⌜ (p .made < 16) × (p .network .area ≤ areaMost) × (p .network .store ≤ fileMost) ⌝ }
+    requires { ⌜ GoodShape (l .output) × (sumsOf (l .kind) ≤ channelsMost) ⌝ }
     ensures { λ r. ⌜ r ≡ pushed p l next ⌝ }
 {
     let mut network = p.network;
@@ -121,7 +122,7 @@ fn push(p: Progress, l: Layer, next: usize) -> Progress
     network.store = network.store + sums_of(kind);
     network.layers[made] = l;
     Progress {
-        refusal: 0,
+        fault: 0,
         at: next,
         made: made + 1,
         network,
@@ -133,7 +134,7 @@ fn step(s: &[u8], p: Progress) -> Progress
     requires { ⌜ CanStep (now s) p ⌝ }
     ensures { λ r. ⌜ r ≡ stepOf (now (s .entry)) p ⌝ }
 {
-    if p.refusal != 0 {
+    if p.fault != 0 {
         return p;
     }
     let network = p.network;
@@ -143,27 +144,26 @@ fn step(s: &[u8], p: Progress) -> Progress
     }
 }
 
+// Nothing follows the last layer.
 fn end_fault(s: &[u8], at: usize) -> u8
     ensures { λ r. ⌜ r ≡ endFault (now (s .entry)) at ⌝ }
 {
     if at == s.len() { 0 } else { 1 }
 }
 
+// The network, unless there is a fault.
 fn decoded_as(fault: u8, p: Progress) -> Decoded
     ensures { λ r. ⌜ r ≡ decodedAs fault p ⌝ }
 {
     match fault {
         0 => {
             let network = p.network;
-            Decoded {
-                refusal: 0,
-                network,
-            }
+            Decoded { fault: 0, network }
         }
         _ => {
             let network = no_network();
             Decoded {
-                refusal: fault,
+                fault: fault,
                 network,
             }
         }
@@ -174,7 +174,7 @@ fn decoded_as(fault: u8, p: Progress) -> Decoded
 pub fn decode(file: &[u8]) -> Decoded
     ensures { λ r. ⌜ r ≡ decodeOf (now (file .entry)) ⌝ }
 {
-    if file.len() > 65536 {
+    if file.len() > FILE_MOST {
         return decoded_as(3, stopped_with(3));
     }
     let mut p = start(file);
@@ -184,5 +184,5 @@ pub fn decode(file: &[u8]) -> Decoded
         p = step(file, p);
         left -= 1;
     }
-    decoded_as(first_of(p.refusal, end_fault(file, p.at)), p)
+    decoded_as(first_of(p.fault, end_fault(file, p.at)), p)
 }

@@ -2,7 +2,7 @@
 ghost use mathlib.Core.Path.{_≡_};
 ghost use Prim.Native.Nat.{_≤_};
 ghost use lib.ListN.{length};
-ghost use Rattle.fields.specs.Shape.{SmallShape};
+ghost use Rattle.fields.specs.Asked.{SmallShape};
 ghost use Rattle.network.specs.Head.{headMark, pictureAt, headFault};
 use fields::bytes::u16_at;
 use fields::faults::cut_fault;
@@ -15,6 +15,7 @@ use fields::shape::Shape;
 use fields::shape::size_fault;
 use records::mark::is_mark;
 
+// The mark stands first.
 fn mark_fault(s: &[u8]) -> u8
     requires { ⌜ 10 ≤ length (now s) ⌝ }
     ensures { λ r. ⌜ r ≡ headMark (now (s .entry)) ⌝ }
@@ -22,6 +23,7 @@ fn mark_fault(s: &[u8]) -> u8
     if is_mark(s, 0, b"NH") { 0 } else { 1 }
 }
 
+// The shape of the picture.
 pub fn picture_at(s: &[u8]) -> Shape
     requires { ⌜ 10 ≤ length (now s) ⌝ }
     ensures { λ r. ⌜ (r ≡ pictureAt (now (s .entry))) × SmallShape r ⌝ }

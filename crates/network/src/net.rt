@@ -3,10 +3,10 @@ ghost use mathlib.Core.Path.{_≡_};
 ghost use Prim.Native.Nat.{_≤_, _<_};
 ghost use Rattle.network.specs.Network.{blankShape, blankLayer, emptyNetwork, tensorOf, placeOf, zeroOf, layerOf};
 use fields::shape::Shape;
+use records::conv::blank_conv;
 use records::layer::Kind;
 use records::layer::Layer;
 use records::mark::Mark;
-use records::reader::blank_conv;
 
 // The picture's shape and zero-point, the number of layers, the layers, and the bytes of all tensors and the number of
 // all stored sums: what the work area and the sum store must hold.
@@ -19,6 +19,7 @@ pub struct Network {
     pub store: usize,
 }
 
+// A layer that is zero throughout: what a list of layers has past its end.
 pub fn blank_layer() -> Layer
     ensures { λ r. ⌜ r ≡ blankLayer ⌝ }
 {
@@ -31,7 +32,7 @@ pub fn blank_layer() -> Layer
         mark: Mark::CV,
         input: shape,
         output: shape,
-        kind: Kind::Convolution(blank_conv()),
+        kind: Kind::Conv(blank_conv()),
         start: 0,
         place: 0,
         sums: 0,
@@ -110,8 +111,8 @@ pub fn zero_point(n: Network, t: usize) -> u8
     let l = n.layers[t - 1];
     let kind = l.kind;
     match kind {
-        Kind::Convolution(c) => c.zero,
-        Kind::Fully(f) => f.zero,
-        Kind::Addition(a) => a.zero,
+        Kind::Conv(c) => c.weighing.zero,
+        Kind::Full(f) => f.weighing.zero,
+        Kind::Add(a) => a.zero,
     }
 }

@@ -2,7 +2,7 @@
 ghost use mathlib.Core.Path.{_≡_};
 ghost use Prim.Native.Nat.{_+_, _≤_};
 ghost use lib.ListN.{length};
-ghost use Rattle.fields.specs.Shape.{GoodShape};
+ghost use Rattle.fields.specs.Asked.{GoodShape};
 ghost use Rattle.records.specs.Layer.{recordLen};
 ghost use Rattle.network.specs.Replace.{agree, replaceFault};
 use records::layer::Layer;

@@ -1,6 +1,5 @@
--- Laws that belong to no one function, and the examples.
+-- Laws that belong to no one function.
 pub mod Added
-pub mod Examples
 pub mod Finished
 pub mod Rescaled
 pub mod Totals

@@ -10,7 +10,8 @@ use lib.Dec.{lit≤}
 use lib.ListN.{length, getD}
 use mir.Syntax.{w32}
 use mir.Val.{SFits}
-use Rattle.numbers.specs.Total.{Sums, totalFrom, totalOf, sum, dot, centred}
+use Rattle.numbers.specs.Asked.{TermsFit}
+use Rattle.numbers.specs.Total.{totalFrom, totalOf, sum, dot, centred}
 use Rattle.numbers.proofs.Whole.{up, down, _≐_⊖_, itself, nat, again, plus, less, times, equal, size, small-fits}
 
 -- the total as a difference
@@ -109,7 +110,7 @@ pub sums :
     ((i : ℕ) → getD q i 0 ≤ 255) →
     ((i : ℕ) → getD w i 0 ≤ 255) →
     t ≤ 255 * length q →
-    Sums (dot q w) (sum q) t (length q)
+    TermsFit (dot q w) (sum q) t (length q)
 sums q w t e hn bq bw ht =
     record {
       few = hn;

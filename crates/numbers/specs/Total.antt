@@ -1,6 +1,6 @@
 -- The total of an output.
 -- Assumes nothing.
-use Prim.Native.Nat.{ℕ, _+_, _*_, _≤_}
+use Prim.Native.Nat.{ℕ, _+_, _*_}
 use mathlib.Core.List.{List, [], _∷_}
 use lib.IntN.{ℤ, pos, _+ℤ_, _-ℤ_, _*ℤ_}
 use lib.ListN.{length}
@@ -31,10 +31,3 @@ centred z v [] [] = pos 0
 centred z v [] (w ∷ ws) = pos 0
 centred z v (q ∷ qs) [] = pos 0
 centred z v (q ∷ qs) (w ∷ ws) = (pos q -ℤ pos z) *ℤ (pos w -ℤ pos v) +ℤ centred z v qs ws
-
--- Σqw, Σq and the stored sum T, none above what n bytes can give, for at most 16,384 bytes
-pub record Sums (qw q t n : ℕ) : Type 0 where
-  pub few : n ≤ 16384
-  pub products : qw ≤ 65025 * n
-  pub bytes : q ≤ 255 * n
-  pub stored : t ≤ 255 * n

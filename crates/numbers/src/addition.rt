@@ -6,7 +6,7 @@ ghost use Rattle.numbers.specs.Addition.{offset, summed};
 use crate::rescale::rescale;
 
 // (q − zero) × 2^20, rescaled by its own multiplier and shift.
-pub fn lift(q: u8, zero: u8, multiplier: u32, shift: u8) -> i32
+pub fn offset_of(q: u8, zero: u8, multiplier: u32, shift: u8) -> i32
     requires { ⌜ (multiplier < 2 ^ 31) × (shift < 32) ⌝ }
     ensures { λ r. ⌜ r ≡ offset q zero multiplier shift ⌝ }
 {
@@ -14,7 +14,7 @@ pub fn lift(q: u8, zero: u8, multiplier: u32, shift: u8) -> i32
 }
 
 // The sum of the two rescaled numbers, rescaled by the third multiplier and shift.
-pub fn sum(first: i32, second: i32, multiplier: u32, shift: u8) -> i32
+pub fn summed_of(first: i32, second: i32, multiplier: u32, shift: u8) -> i32
     requires { ⌜ (natAbs first ≤ 2 ^ 28) × (natAbs second ≤ 2 ^ 28) ⌝ }
     requires { ⌜ (multiplier < 2 ^ 31) × (shift < 32) ⌝ }
     ensures { λ r. ⌜ r ≡ summed first second multiplier shift ⌝ }

@@ -1,5 +1,8 @@
-// The numbers of document 01: an output's total, the total rescaled, the output byte, and the steps of an add.
+// The numbers of document 01: an output's total, the total rescaled, the output byte, and the steps of an add; the limits;
+// and small steps that several crates take.
 pub mod addition;
 pub mod finish;
+pub mod limits;
 pub mod rescale;
+pub mod small;
 pub mod total;

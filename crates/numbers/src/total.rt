@@ -2,12 +2,13 @@
 ghost use mathlib.Core.Path.{_≡_};
 ghost use Prim.Native.Nat.{_≤_};
 ghost use lib.IntN.{natAbs};
-ghost use Rattle.numbers.specs.Total.{totalFrom, Sums};
+ghost use Rattle.numbers.specs.Total.{totalFrom};
+ghost use Rattle.numbers.specs.Asked.{TermsFit};
 
 // b + Σqw − VΣq − ZT + NZV. What is added and what is taken away are summed apart, since a 32-bit sum that starts
 // from the bias less both corrections may leave its range on the way.
 pub fn total(bias: i32, products: u32, bytes: u32, sum: u32, n: u32, z: u8, v: u8) -> i32
-    requires { ⌜ Sums products bytes sum n ⌝ }
+    requires { ⌜ TermsFit products bytes sum n ⌝ }
     requires { ⌜ natAbs (totalFrom bias products bytes sum n z v) ≤ 2139111424 ⌝ }
     ensures { λ r. ⌜ r ≡ totalFrom bias products bytes sum n z v ⌝ }
 {

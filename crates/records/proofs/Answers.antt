@@ -8,13 +8,15 @@ use lib.IntN.{natAbs}
 use lib.ListN.{length}
 use Rattle.fields.specs.Bytes.{i32At}
 use Rattle.fields.specs.Faults.{first, cutFault}
-use Rattle.fields.specs.Shape.{bytesOf, sizeFault, GoodShape}
+use Rattle.fields.specs.Shape.{bytesOf, sizeFault}
+use Rattle.fields.specs.Asked.{GoodShape}
 use Rattle.fields.specs.declared.shape.Shape.{Shape}
 use Rattle.fields.proofs.Tests.{met, passed, first-both, first-none, cut-there}
 use Rattle.fields.proofs.Shapes.{size-in}
 use Rattle.fields.proofs.Stores.{stored-in}
 use Rattle.records.specs.Mark.{fixedLen}
-use Rattle.records.specs.Layer.{sumsOf, termsOf, outputShape, recordLen, KindOk}
+use Rattle.records.specs.Layer.{sumsOf, termsOf, outputShape, recordLen}
+use Rattle.records.specs.Asked.{KindOk}
 use Rattle.records.specs.Reader.{kindAt, ownFault, suitFault, storedAfter, layerWith, answer, readAs}
 use Rattle.records.specs.declared.layer.Kind.{Kind}
 use Rattle.records.specs.declared.layer.Layer.{Layer}

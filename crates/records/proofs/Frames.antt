@@ -7,11 +7,13 @@ use native.Mathlib.Omega.{arith}
 use native.Mathlib.Nat.{div-le-self}
 use borrow.Author.Tests.{le-leb, lt-leb, leb-true}
 use lib.Dec.{leb}
-use Rattle.fields.specs.Shape.{bytesOf, SmallShape, GoodShape}
+use Rattle.fields.specs.Shape.{bytesOf}
+use Rattle.fields.specs.Asked.{SmallShape, GoodShape}
 use Rattle.fields.specs.declared.shape.Shape.{Shape}
 use Rattle.fields.proofs.Tests.{first-both, and-both, within-in, padding-in}
 use Rattle.fields.proofs.Shapes.{good-shape}
-use Rattle.records.specs.Frame.{frameFields, fits, frameOutput, FrameOk, Fits}
+use Rattle.records.specs.Frame.{frameFields, fits, frameOutput}
+use Rattle.records.specs.Asked.{FrameOk, FrameFits}
 use Rattle.records.specs.declared.frame.Frame.{Frame}
 
 pub frame-ok : (f : Frame) → frameFields f ≡ 0 → FrameOk f
@@ -34,7 +36,7 @@ frame-ok f p =
       padding-columns = padding .1;
     }
 
-pub frame-fits : (f : Frame) (i : Shape) → fits f i ≡ true → Fits f i
+pub frame-fits : (f : Frame) (i : Shape) → fits f i ≡ true → FrameFits f i
 unfolding fits
 frame-fits f i p =
     let a = and-both _ _ p in

@@ -5,57 +5,59 @@ use mathlib.Core.Path.{_≡_}
 use mathlib.Core.List.{List}
 use native.Mathlib.Omega.{arith}
 use borrow.Author.Tests.{leb-true}
-use Rattle.fields.specs.Shape.{bytesOf, GoodShape}
+use Rattle.fields.specs.Shape.{bytesOf}
+use Rattle.fields.specs.Asked.{GoodShape}
 use Rattle.fields.specs.declared.shape.Shape.{Shape}
 use Rattle.fields.proofs.Tests.{first-both, unless-none, and-both, within-in, clamp-in}
 use Rattle.fields.proofs.Shapes.{good-shape, same-equal}
 use Rattle.records.specs.Mark.{fixedLen}
-use Rattle.records.specs.Conv.{ConvOk, convAt, convFields}
-use Rattle.records.specs.Full.{FullOk, fullAt, fullFields}
-use Rattle.records.specs.Add.{AddOk, addAt, addFields}
-use Rattle.records.specs.Layer.{sumsOf, outputShape, KindOk, KindFits}
+use Rattle.records.specs.Asked.{WeighingOk, ConvOk, FullOk, AddOk, KindOk, KindFits}
+use Rattle.records.specs.Weighing.{weighingFields}
+use Rattle.records.specs.Conv.{convAt, convFields}
+use Rattle.records.specs.Full.{fullAt, fullFields}
+use Rattle.records.specs.Add.{addAt, addFields}
+use Rattle.records.specs.Layer.{sumsOf, outputShape}
 use Rattle.records.specs.Reader.{kindAt, ownFault, suitFault}
-use Rattle.records.specs.declared.conv.Conv.{Conv}
-use Rattle.records.specs.declared.full.Full.{Full}
-use Rattle.records.specs.declared.add.Add.{Add}
+use Rattle.records.specs.declared.weighing.Weighing.{Weighing}
+use Rattle.records.specs.declared.conv.Conv.{Conv as ConvParams}
+use Rattle.records.specs.declared.full.Full.{Full as FullParams}
+use Rattle.records.specs.declared.add.Add.{Add as AddParams}
 use Rattle.records.specs.declared.layer.Kind.{Kind}
-use Rattle.records.specs.declared.layer.Kind.the-variants.{Convolution, Fully, Addition}
+use Rattle.records.specs.declared.layer.Kind.the-variants.{Conv, Full, Add}
 use Rattle.records.specs.declared.mark.Mark.{Mark}
 use Rattle.records.specs.declared.mark.Mark.the-variants.{CV, FU, AD, Other}
 use Rattle.records.specs.declared.reader.Before.{Before}
 use Rattle.records.proofs.Frames.{frame-ok, frame-fits, frame-good}
 
-conv-ok : (c : Conv) → convFields c ≡ 0 → ConvOk c
+weighing-ok : (w : Weighing) → weighingFields w ≡ 0 → WeighingOk w
+weighing-ok w p =
+    let a = first-both _ _ p in
+    let b = first-both _ _ (a .1) in
+    record {
+      clamp = clamp-in (w .low) (w .high) (a .0);
+      shift-few = within-in 0 31 (w .scale .shift) (b .0) .1;
+      multiplier-few = within-in 1073741824 2147483647 (w .scale .multiplier) (b .1) .1;
+    }
+
+conv-ok : (c : ConvParams) → convFields c ≡ 0 → ConvOk c
 conv-ok c p =
     let a = first-both _ _ p in
     let b = first-both _ _ (a .1) in
-    let d = first-both _ _ (b .1) in
-    let e = first-both _ _ (d .1) in
     let filters = within-in 1 64 (c .filters) (a .0) in
     record {
       filters-some = filters .0;
       filters-few = filters .1;
       frame = frame-ok (c .frame) (b .0);
-      clamp = clamp-in (c .low) (c .high) (d .0);
-      shift-few = within-in 0 31 (c .scale .shift) (e .0) .1;
-      multiplier-few = within-in 1073741824 2147483647 (c .scale .multiplier) (e .1) .1;
+      weighing = weighing-ok (c .weighing) (b .1);
     }
 
-full-ok : (f : Full) → fullFields f ≡ 0 → FullOk f
+full-ok : (f : FullParams) → fullFields f ≡ 0 → FullOk f
 full-ok f p =
     let a = first-both _ _ p in
-    let b = first-both _ _ (a .1) in
-    let d = first-both _ _ (b .1) in
     let outputs = within-in 1 256 (f .outputs) (a .0) in
-    record {
-      outputs-some = outputs .0;
-      outputs-few = outputs .1;
-      clamp = clamp-in (f .low) (f .high) (b .0);
-      shift-few = within-in 0 31 (f .scale .shift) (d .0) .1;
-      multiplier-few = within-in 1073741824 2147483647 (f .scale .multiplier) (d .1) .1;
-    }
+    record { outputs-some = outputs .0; outputs-few = outputs .1; weighing = weighing-ok (f .weighing) (a .1) }
 
-add-ok : (a : Add) → addFields a ≡ 0 → AddOk a
+add-ok : (a : AddParams) → addFields a ≡ 0 → AddOk a
 add-ok a p =
     let b = first-both _ _ p in
     let d = first-both _ _ (b .1) in
@@ -90,25 +92,25 @@ fixed-few Other = omega arith
 
 -- a layer has few sums
 pub sums-few : (k : Kind) → KindOk k → sumsOf k ≤ 256
-sums-few (Convolution c) ok = omega (arith, ok .filters-few)
-sums-few (Fully f) ok = ok .outputs-few
-sums-few (Addition a) ok = omega arith
+sums-few (Conv c) ok = omega (arith, ok .filters-few)
+sums-few (Full f) ok = ok .outputs-few
+sums-few (Add a) ok = omega arith
 
 -- what it makes is of a good shape where it is not too big
 pub output-good : (k : Kind) (i : Shape) → KindOk k → GoodShape i → bytesOf (outputShape k i) ≤ 16384 → GoodShape (outputShape k i)
-output-good (Convolution c) i ok g b = frame-good (c .frame) i (c .filters) (ok .filters-some) (omega (arith, ok .filters-few)) b
-output-good (Fully f) i ok g b = good-shape _ (omega arith) (omega arith) (ok .outputs-some) (ok .outputs-few) b
-output-good (Addition a) i ok g b = g
+output-good (Conv c) i ok g b = frame-good (c .frame) i (c .filters) (ok .filters-some) (omega (arith, ok .filters-few)) b
+output-good (Full f) i ok g b = good-shape _ (omega arith) (omega arith) (ok .outputs-some) (ok .outputs-few) b
+output-good (Add a) i ok g b = g
 
 -- a frame fits the input that suits the layer
 pub suits-fit : (k : Kind) (b : Before) (other : Shape) → suitFault k b other ≡ 0 → KindFits k (b .input)
 unfolding suitFault
-suits-fit (Convolution c) b other h = frame-fits (c .frame) (b .input) (unless-none _ 2 h)
-suits-fit (Fully f) b other h = tt
-suits-fit (Addition a) b other h = tt
+suits-fit (Conv c) b other h = frame-fits (c .frame) (b .input) (unless-none _ 2 h)
+suits-fit (Full f) b other h = tt
+suits-fit (Add a) b other h = tt
 
 -- an add's other tensor is there, and of the shape of the input that suits it
-pub add-suits : (a : Add) (b : Before) (other : Shape) → suitFault (Addition a) b other ≡ 0 → (a .other ≤ b .made) × (other ≡ b .input)
+pub add-suits : (a : AddParams) (b : Before) (other : Shape) → suitFault (Add a) b other ≡ 0 → (a .other ≤ b .made) × (other ≡ b .input)
 unfolding suitFault
 add-suits a b other h =
     let p = and-both _ _ (unless-none _ 2 h) in

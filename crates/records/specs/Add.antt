@@ -1,11 +1,12 @@
 -- The add record.
 -- Assumes nothing.
-use Prim.Native.Nat.{ℕ, _+_, _≤_}
+use Prim.Native.Nat.{ℕ, _+_}
 use mathlib.Core.List.{List, [], _∷_}
 use Rattle.fields.specs.Faults.{firstFault, shiftFault, multiplierFault, clampFault}
 use Rattle.fields.specs.Bytes.{byteAt, u32At}
 use Rattle.records.specs.declared.add.Add.{Add}
 
+-- the parameters of the record at a place
 abbrev pub addAt : List ℕ → ℕ → Add
 addAt s at = record {
   other = byteAt s (at + 2);
@@ -27,13 +28,3 @@ addFields a = firstFault (
     shiftFault (a .first .shift) ∷
     shiftFault (a .second .shift) ∷
     shiftFault (a .third .shift) ∷ [])
-
--- fields in their ranges
-pub record AddOk (a : Add) : Type 0 where
-  pub clamp : a .low ≤ a .high
-  pub first-multiplier : a .first .multiplier ≤ 2147483647
-  pub second-multiplier : a .second .multiplier ≤ 2147483647
-  pub third-multiplier : a .third .multiplier ≤ 2147483647
-  pub first-shift : a .first .shift ≤ 31
-  pub second-shift : a .second .shift ≤ 31
-  pub third-shift : a .third .shift ≤ 31

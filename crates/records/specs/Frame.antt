@@ -1,6 +1,6 @@
 -- The frame of a windowed layer: its kernel, its stride and its padding.
 -- Assumes nothing.
-use Prim.Native.Nat.{ℕ, _+_, _-_, _*_, _/_, _≤_, _<_}
+use Prim.Native.Nat.{ℕ, _+_, _-_, _*_, _/_}
 use mathlib.Core.Bool.{Bool, _&&_}
 use mathlib.Core.List.{[], _∷_}
 use lib.Dec.{leb}
@@ -31,19 +31,3 @@ frameOutput f i channels = record {
   columns = outputSide (i .columns) (2 * f .padding) (f .width) (f .stride);
   channels = channels;
 }
-
--- fields in their ranges
-pub record FrameOk (f : Frame) : Type 0 where
-  pub height-some : 1 ≤ f .height
-  pub height-few : f .height ≤ 7
-  pub width-some : 1 ≤ f .width
-  pub width-few : f .width ≤ 7
-  pub stride-some : 1 ≤ f .stride
-  pub stride-few : f .stride ≤ 4
-  pub padding-rows : f .padding < f .height
-  pub padding-columns : f .padding < f .width
-
--- a frame that fits its input
-pub record Fits (f : Frame) (i : Shape) : Type 0 where
-  pub rows-fit : f .height ≤ i .rows + 2 * f .padding
-  pub columns-fit : f .width ≤ i .columns + 2 * f .padding

@@ -11,13 +11,12 @@ use Rattle.fields.specs.Stored.{biasFaults, storedFault}
 use Rattle.fields.specs.declared.shape.Shape.{Shape}
 use Rattle.records.specs.Mark.{fixedLen}
 use Rattle.records.specs.Frame.{fits}
-use Rattle.records.specs.Conv.{convAt, convFields}
+use Rattle.records.specs.Conv.{blankConv, convAt, convFields}
 use Rattle.records.specs.Full.{fullAt, fullFields}
 use Rattle.records.specs.Add.{addAt, addFields}
 use Rattle.records.specs.Layer.{sumsOf, termsOf, outputShape, biasesAt, recordLen}
-use Rattle.records.specs.declared.conv.Conv.{Conv}
 use Rattle.records.specs.declared.layer.Kind.{Kind}
-use Rattle.records.specs.declared.layer.Kind.the-variants.{Convolution, Fully, Addition}
+use Rattle.records.specs.declared.layer.Kind.the-variants.{Conv, Full, Add}
 use Rattle.records.specs.declared.layer.Layer.{Layer}
 use Rattle.records.specs.declared.mark.Mark.{Mark}
 use Rattle.records.specs.declared.mark.Mark.the-variants.{CV, FU, AD, Other}
@@ -25,24 +24,12 @@ use Rattle.records.specs.declared.reader.Before.{Before}
 use Rattle.records.specs.declared.reader.Read.{Read}
 use Rattle.records.specs.declared.reader.Read.the-variants.{Refused, Found}
 
--- zero throughout
-abbrev pub blankConv : Conv
-blankConv = record {
-  filters = 0;
-  frame = record { height = 0; width = 0; stride = 0; padding = 0 };
-  v = 0;
-  zero = 0;
-  low = 0;
-  high = 0;
-  scale = record { multiplier = 0; shift = 0 };
-}
-
 -- the parameters that the record at a place holds, by its mark; an unknown mark is refused, whatever stands here
 abbrev pub kindAt : Mark → List ℕ → ℕ → Kind
-kindAt CV s at = Convolution (convAt s at)
-kindAt FU s at = Fully (fullAt s at)
-kindAt AD s at = Addition (addAt s at)
-kindAt Other s at = Convolution blankConv
+kindAt CV s at = Conv (convAt s at)
+kindAt FU s at = Full (fullAt s at)
+kindAt AD s at = Add (addAt s at)
+kindAt Other s at = Conv blankConv
 
 -- a record's own faults: the mark is unknown; a spare, then the fields in file order
 unfoldable pub ownFault : Mark → List ℕ → ℕ → ℕ
@@ -53,21 +40,13 @@ ownFault Other s at = 1
 
 -- the input does not suit the layer: a padded side is below the kernel's, or tensor j is not there yet or of another shape
 unfoldable pub suitFault : Kind → Before → Shape → ℕ
-suitFault (Convolution c) b other = unless (fits (c .frame) (b .input)) 3
-suitFault (Fully f) b other = 0
-suitFault (Addition a) b other = unless (leb (a .other) (b .made) && sameShape other (b .input)) 3
+suitFault (Conv c) b other = unless (fits (c .frame) (b .input)) 3
+suitFault (Full f) b other = 0
+suitFault (Add a) b other = unless (leb (a .other) (b .made) && sameShape other (b .input)) 3
 
 -- the layer whose record begins at a place, after what stands before it
 abbrev pub layerWith : Mark → Kind → ℕ → Before → Layer
-layerWith m k at b = record {
-  mark = m;
-  input = b .input;
-  output = outputShape k (b .input);
-  kind = k;
-  start = at;
-  place = b .area;
-  sums = b .store;
-}
+layerWith m k at b = record { mark = m; kind = k; input = b .input; output = outputShape k (b .input); start = at; place = b .area; sums = b .store }
 
 -- what is stored after the fixed part: biases and weights present, biases in order
 abbrev pub storedAfter : List ℕ → Layer → ℕ

@@ -23,6 +23,7 @@ pub struct Add {
     pub third: Scale,
 }
 
+// The parameters of the record at a place.
 pub fn add_at(s: &[u8], at: usize) -> Add
     requires { ⌜ at + fixedLen AD ≤ length (now s) ⌝ }
     ensures { λ r. ⌜ r ≡ addAt (now (s .entry)) at ⌝ }

@@ -3,34 +3,55 @@ ghost use mathlib.Core.Path.{_≡_};
 ghost use Prim.Native.Nat.{_+_, _≤_};
 ghost use lib.ListN.{length};
 ghost use Rattle.records.specs.Mark.{fixedLen};
-ghost use Rattle.records.specs.Conv.{convAt, convFields};
+ghost use Rattle.records.specs.Conv.{blankConv, convAt, convFields};
 ghost use Rattle.records.specs.declared.mark.Mark.the-variants.{CV};
 use crate::frame::Frame;
 use crate::frame::frame_fields;
 use crate::layer::Scale;
-use fields::bytes::u32_at;
-use fields::faults::clamp_fault;
+use crate::weighing::Weighing;
+use crate::weighing::weighing_at;
+use crate::weighing::weighing_fields;
 use fields::faults::first_of;
-use fields::faults::multiplier_fault;
 use fields::faults::one_to_64;
-use fields::faults::shift_fault;
 
-// v is the weight zero-point and zero the output's.
+// The parameters of a convolution.
 pub struct Conv {
     pub filters: u8,
     pub frame: Frame,
-    pub v: u8,
-    pub zero: u8,
-    pub low: u8,
-    pub high: u8,
-    pub scale: Scale,
+    pub weighing: Weighing,
 }
 
+// Zero throughout.
+pub fn blank_conv() -> Conv
+    ensures { λ r. ⌜ r ≡ blankConv ⌝ }
+{
+    Conv {
+        filters: 0,
+        frame: Frame {
+            height: 0,
+            width: 0,
+            stride: 0,
+            padding: 0,
+        },
+        weighing: Weighing {
+            v: 0,
+            zero: 0,
+            low: 0,
+            high: 0,
+            scale: Scale {
+                multiplier: 0,
+                shift: 0,
+            },
+        },
+    }
+}
+
+// The parameters of the record at a place.
 pub fn conv_at(s: &[u8], at: usize) -> Conv
     requires { ⌜ at + fixedLen CV ≤ length (now s) ⌝ }
     ensures { λ r. ⌜ r ≡ convAt (now (s .entry)) at ⌝ }
 {
-    let multiplier = u32_at(s, at + 12);
+    let weighing = weighing_at(s, at + 7, at + 12);
     Conv {
         filters: s[at + 2],
         frame: Frame {
@@ -39,14 +60,7 @@ pub fn conv_at(s: &[u8], at: usize) -> Conv
             stride: s[at + 5],
             padding: s[at + 6],
         },
-        v: s[at + 7],
-        zero: s[at + 8],
-        low: s[at + 9],
-        high: s[at + 10],
-        scale: Scale {
-            multiplier,
-            shift: s[at + 11],
-        },
+        weighing,
     }
 }
 
@@ -55,10 +69,7 @@ pub fn conv_fields(c: Conv) -> u8
     ensures { λ r. ⌜ r ≡ convFields c ⌝ }
 {
     let frame = c.frame;
-    let scale = first_of(
-        shift_fault(c.scale.shift),
-        multiplier_fault(c.scale.multiplier),
-    );
-    let rest = first_of(clamp_fault(c.low, c.high), scale);
-    first_of(one_to_64(c.filters), first_of(frame_fields(frame), rest))
+    let weighing = c.weighing;
+    let rest = first_of(frame_fields(frame), weighing_fields(weighing));
+    first_of(one_to_64(c.filters), rest)
 }

@@ -1,7 +1,8 @@
 // The frame of a windowed layer: its kernel, its stride and its padding.
 ghost use mathlib.Core.Path.{_≡_};
-ghost use Rattle.fields.specs.Shape.{GoodShape, SmallShape};
-ghost use Rattle.records.specs.Frame.{frameFields, fits, frameOutput, FrameOk, Fits};
+ghost use Rattle.fields.specs.Asked.{GoodShape, SmallShape};
+ghost use Rattle.records.specs.Frame.{frameFields, fits, frameOutput};
+ghost use Rattle.records.specs.Asked.{FrameOk, FrameFits};
 use fields::faults::first_of;
 use fields::faults::kernel_fault;
 use fields::faults::padding_fault;
@@ -44,7 +45,7 @@ pub fn frame_fits(f: Frame, input: Shape) -> bool
 pub fn frame_output(f: Frame, input: Shape, channels: u8) -> Shape
     requires { ⌜ FrameOk f ⌝ }
     requires { ⌜ GoodShape input ⌝ }
-    requires { ⌜ Fits f input ⌝ }
+    requires { ⌜ FrameFits f input ⌝ }
     ensures { λ r. ⌜ (r ≡ frameOutput f input channels) × SmallShape r ⌝ }
 {
     let twice = 2 * f.padding as usize;

@@ -1,7 +1,8 @@
 // A decoded layer: its mark, its shapes, its kind with the parameters, and where its parts stand.
 ghost use mathlib.Core.Path.{_≡_};
 ghost use Prim.Native.Nat.{_+_, _≤_};
-ghost use Rattle.fields.specs.Shape.{GoodShape};
+ghost use Rattle.numbers.specs.Limits.{fileMost};
+ghost use Rattle.fields.specs.Asked.{GoodShape};
 ghost use Rattle.records.specs.Layer.{sumsOf, termsOf, otherOf, biasesAt, weightsAt, recordLen};
 use crate::add::Add;
 use crate::conv::Conv;
@@ -18,10 +19,11 @@ pub struct Scale {
     pub shift: u8,
 }
 
+// The kinds of layer, each with its parameters.
 pub enum Kind {
-    Convolution(Conv),
-    Fully(Full),
-    Addition(Add),
+    Conv(Conv),
+    Full(Full),
+    Add(Add),
 }
 
 // Its record begins in the file at `start`, its output tensor in the area at `place`, its sums in the store at `sums`. The
@@ -41,9 +43,9 @@ pub fn sums_of(kind: Kind) -> usize
     ensures { λ r. ⌜ (r ≡ sumsOf kind) × (r ≤ 65535) ⌝ }
 {
     match kind {
-        Kind::Convolution(c) => c.filters as usize,
-        Kind::Fully(f) => f.outputs as usize,
-        Kind::Addition(_) => 0,
+        Kind::Conv(c) => c.filters as usize,
+        Kind::Full(f) => f.outputs as usize,
+        Kind::Add(_) => 0,
     }
 }
 
@@ -52,9 +54,9 @@ pub fn other_of(kind: Kind, m: usize) -> usize
     ensures { λ r. ⌜ r ≡ otherOf kind m ⌝ }
 {
     match kind {
-        Kind::Convolution(_) => m,
-        Kind::Fully(_) => m,
-        Kind::Addition(a) => a.other as usize,
+        Kind::Conv(_) => m,
+        Kind::Full(_) => m,
+        Kind::Add(a) => a.other as usize,
     }
 }
 
@@ -64,12 +66,13 @@ pub fn terms_by(kind: Kind, input: Shape) -> usize
     ensures { λ r. ⌜ (r ≡ termsOf kind input) × (r ≤ 16777216) ⌝ }
 {
     match kind {
-        Kind::Convolution(c) => (c.frame.height as usize * c.frame.width as usize) * input.channels,
-        Kind::Fully(_) => bytes_of(input),
-        Kind::Addition(_) => 0,
+        Kind::Conv(c) => (c.frame.height as usize * c.frame.width as usize) * input.channels,
+        Kind::Full(_) => bytes_of(input),
+        Kind::Add(_) => 0,
     }
 }
 
+// The same, of a layer.
 pub fn terms_of(y: Layer) -> usize
     requires { ⌜ GoodShape (y .input) ⌝ }
     ensures { λ r. ⌜ (r ≡ termsOf (y .kind) (y .input)) × (r ≤ 16777216) ⌝ }
@@ -81,7 +84,7 @@ pub fn terms_of(y: Layer) -> usize
 
 // Where a layer's biases begin in the file.
 pub fn biases_at(y: Layer) -> usize
-    requires { ⌜ y .start ≤ 65536 ⌝ }
+    requires { ⌜ y .start ≤ fileMost ⌝ }
     ensures { λ r. ⌜ (r ≡ biasesAt y) × (r ≤ 65558) ⌝ }
 {
     let mark = y.mark;
@@ -90,7 +93,7 @@ pub fn biases_at(y: Layer) -> usize
 
 // Where its weights begin.
 pub fn weights_at(y: Layer) -> usize
-    requires { ⌜ y .start ≤ 65536 ⌝ }
+    requires { ⌜ y .start ≤ fileMost ⌝ }
     ensures { λ r. ⌜ r ≡ weightsAt y ⌝ }
 {
     let kind = y.kind;

@@ -6,3 +6,4 @@ pub mod full;
 pub mod layer;
 pub mod mark;
 pub mod reader;
+pub mod weighing;

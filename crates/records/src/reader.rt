@@ -2,16 +2,17 @@
 ghost use mathlib.Core.Path.{_≡_};
 ghost use Prim.Native.Nat.{_+_, _*_, _≤_};
 ghost use lib.ListN.{length};
-ghost use Rattle.fields.specs.Shape.{GoodShape, SmallShape};
+ghost use Rattle.numbers.specs.Limits.{areaMost};
+ghost use Rattle.fields.specs.Asked.{GoodShape, SmallShape};
 ghost use Rattle.records.specs.Mark.{fixedLen};
-ghost use Rattle.records.specs.Layer.{KindOk, outputShape};
-ghost use Rattle.records.specs.Reader.{blankConv, kindAt, ownFault, suitFault, answer, readAs, recordFault};
+ghost use Rattle.records.specs.Asked.{KindOk};
+ghost use Rattle.records.specs.Layer.{outputShape};
+ghost use Rattle.records.specs.Reader.{kindAt, ownFault, suitFault, answer, readAs, recordFault};
 use crate::add::add_at;
 use crate::add::add_fields;
-use crate::conv::Conv;
+use crate::conv::blank_conv;
 use crate::conv::conv_at;
 use crate::conv::conv_fields;
-use crate::frame::Frame;
 use crate::frame::frame_fits;
 use crate::frame::frame_output;
 use crate::full::full_at;
@@ -19,7 +20,6 @@ use crate::full::full_fields;
 use crate::full::full_output;
 use crate::layer::Kind;
 use crate::layer::Layer;
-use crate::layer::Scale;
 use crate::layer::sums_of;
 use crate::layer::terms_by;
 use crate::mark::Mark;
@@ -48,6 +48,7 @@ pub enum Read {
     Found(Layer, usize),
 }
 
+// The layer and where the next record begins, unless there is a fault.
 pub fn answer_of(fault: u8, layer: Layer, next: usize) -> Read
     ensures { λ r. ⌜ r ≡ answer fault layer next ⌝ }
 {
@@ -57,39 +58,16 @@ pub fn answer_of(fault: u8, layer: Layer, next: usize) -> Read
     }
 }
 
-// Zero throughout.
-pub fn blank_conv() -> Conv
-    ensures { λ r. ⌜ r ≡ blankConv ⌝ }
-{
-    Conv {
-        filters: 0,
-        frame: Frame {
-            height: 0,
-            width: 0,
-            stride: 0,
-            padding: 0,
-        },
-        v: 0,
-        zero: 0,
-        low: 0,
-        high: 0,
-        scale: Scale {
-            multiplier: 0,
-            shift: 0,
-        },
-    }
-}
-
 // The parameters that the record at a place holds.
 pub fn kind_at(m: Mark, s: &[u8], at: usize) -> Kind
     requires { ⌜ at + fixedLen m ≤ length (now s) ⌝ }
     ensures { λ r. ⌜ r ≡ kindAt m (now (s .entry)) at ⌝ }
 {
     match m {
-        Mark::CV => Kind::Convolution(conv_at(s, at)),
-        Mark::FU => Kind::Fully(full_at(s, at)),
-        Mark::AD => Kind::Addition(add_at(s, at)),
-        Mark::Other => Kind::Convolution(blank_conv()),
+        Mark::CV => Kind::Conv(conv_at(s, at)),
+        Mark::FU => Kind::Full(full_at(s, at)),
+        Mark::AD => Kind::Add(add_at(s, at)),
+        Mark::Other => Kind::Conv(blank_conv()),
     }
 }
 
@@ -113,12 +91,12 @@ fn suit_fault(kind: Kind, b: Before, other: Shape) -> u8
 {
     let input = b.input;
     match kind {
-        Kind::Convolution(c) => {
+        Kind::Conv(c) => {
             let frame = c.frame;
             if frame_fits(frame, input) { 0 } else { 3 }
         }
-        Kind::Fully(_) => 0,
-        Kind::Addition(a) => {
+        Kind::Full(_) => 0,
+        Kind::Add(a) => {
             if a.other as usize <= b.made {
                 if same_shape(other, input) {
                     return 0;
@@ -138,12 +116,12 @@ fn output_shape(kind: Kind, b: Before, other: Shape) -> Shape
 {
     let input = b.input;
     match kind {
-        Kind::Convolution(c) => {
+        Kind::Conv(c) => {
             let frame = c.frame;
             frame_output(frame, input, c.filters)
         }
-        Kind::Fully(f) => full_output(f),
-        Kind::Addition(_) => input,
+        Kind::Full(f) => full_output(f),
+        Kind::Add(_) => input,
     }
 }
 
@@ -151,7 +129,7 @@ fn output_shape(kind: Kind, b: Before, other: Shape) -> Shape
 pub fn fit_record(m: Mark, kind: Kind, s: &[u8], at: usize, b: Before, other: Shape) -> Read
     requires { ⌜ at + fixedLen m ≤ length (now s) ⌝ }
     requires { ⌜ (ownFault m (now s) at ≡ 0) × (kind ≡ kindAt m (now s) at) ⌝ }
-    requires { ⌜ GoodShape (b .input) × (b .area ≤ 65536) ⌝ }
+    requires { ⌜ GoodShape (b .input) × (b .area ≤ areaMost) ⌝ }
     ensures { λ r. ⌜ r ≡ readAs m kind (now (s .entry)) at b other ⌝ }
 {
     let suit = suit_fault(kind, b, other);

@@ -87,6 +87,7 @@ fn too_early(
     read(file, sums, area, after, out, sizes);
 }
 
+// All of it, in order.
 pub fn play(
     file: &mut [u8],
     sums: &mut [u32],

@@ -1,10 +1,12 @@
 // What the program writes.
 use libc::STDOUT_FILENO;
 
+// A word as it is.
 pub fn word(text: &[u8]) {
     io::write_all(STDOUT_FILENO, text);
 }
 
+// A number in decimal.
 pub fn number(n: usize) {
     io::print_decimal(STDOUT_FILENO, n as u64);
 }
@@ -28,6 +30,7 @@ pub fn recomputed(number_of: u8, count: usize, made: usize) {
     word(b" bytes\n");
 }
 
+// A space and a byte in decimal.
 fn byte(b: u8) {
     word(b" ");
     number(b as usize);

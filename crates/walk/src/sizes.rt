@@ -15,7 +15,7 @@ pub struct Sizes {
 pub fn sizes_of(file: &[u8]) -> Sizes {
     let d = decode(file);
     let n = d.network;
-    if d.refusal != 0 {
+    if d.fault != 0 {
         return Sizes {
             made: 0,
             last: 0,

@@ -4,8 +4,7 @@
 use mathlib.Core.Path.{_≡_, refl}
 use mathlib.Core.List.{List, [], _∷_}
 use Prim.Native.Nat.{ℕ}
-use Rattle.numbers.specs.Total.{dot}
-use Rattle.windows.specs.Lists.{joined}
+use Rattle.lists.specs.Lists.{joined}
 use Rattle.windows.specs.Window.{cellOf, stripOf, windowOf}
 use Rattle.windows.specs.declared.window.Window.{Window}
 
@@ -19,8 +18,3 @@ picture = 20 ∷ 30 ∷ 40 ∷ []
 pub window-at-the-edge : windowOf K picture 0 0 ≡ 10 ∷ 10 ∷ 10 ∷ 10 ∷ 20 ∷ 10 ∷ 10 ∷ 30 ∷ 10 ∷ []
 unfolding windowOf stripOf cellOf joined
 window-at-the-edge = refl
-
--- Σqw less ZΣw with weights of 1: 120 − 90 is the paper's total 30
-pub total-at-the-edge : dot (windowOf K picture 0 0) (1 ∷ 1 ∷ 1 ∷ 1 ∷ 1 ∷ 1 ∷ 1 ∷ 1 ∷ 1 ∷ []) ≡ 120
-unfolding windowOf stripOf cellOf joined
-total-at-the-edge = refl

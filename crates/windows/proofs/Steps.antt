@@ -5,14 +5,13 @@ use mathlib.Core.List.{List}
 use Prim.Native.Nat.{ℕ, _+_, _*_, _≤_, _<_}
 use native.Mathlib.Nat.{mul-le-mul, add-assoc}
 use native.Mathlib.Numerals.{add-one}
-use native.Mathlib.Omega.{arith}
 use lib.ListN.{length, drop, getD, drop-of-length-le}
 use lib.Seq.{drop-cons}
 use Rattle.numbers.specs.Total.{sum, dot}
 
 -- the product of two bytes
-pub byte-product : {x y : ℕ} → x < 256 → y < 256 → x * y ≤ 65025
-byte-product hx hy = mul-le-mul {n₂ = 255} {m₂ = 255} (omega arith) (omega arith)
+pub byte-product : {x y : ℕ} → x ≤ 255 → y ≤ 255 → x * y ≤ 65025
+byte-product hx hy = mul-le-mul {n₂ = 255} {m₂ = 255} hx hy
 
 -- one more byte of Σq
 pub sum-step : (q : List ℕ) (i : ℕ) → i < length q → sum (drop i q) ≡ getD q i 0 + sum (drop (i + 1) q)

@@ -4,17 +4,17 @@ use mathlib.Core.Path.{_≡_, refl, sym, ap, _∙_}
 use mathlib.Core.List.{List, _++_}
 use mathlib.Core.Bool.{Bool, true, false, _&&_, and-false, false≢true}
 use Prim.Native.Nat.{ℕ, _+_, _*_, _-_, _≤_, _<_, min}
-use native.Mathlib.Nat.{mul-le-mul, mul-le-mul-left, mul-le-mul-right, add-assoc}
+use native.Mathlib.Nat.{mul-le-mul-left, mul-le-mul-right, add-assoc}
 use native.Mathlib.Omega.{arith}
 use lib.ListN.{length, replicate, length-replicate, length-append}
 use borrow.Author.Tests.{leb-true, ltb-true, lt-ltb, le-ltb, le-leb, lt-leb}
-use Rattle.windows.specs.Lists.{pasted, joined, part}
-use Rattle.windows.specs.Window.{Sound, Runs, stopOf, sizeOf, termsOf, isReal, cellOf, stripOf, windowOf}
+use Rattle.lists.specs.Lists.{pasted, joined, part}
+use Rattle.windows.specs.Asked.{SmallWindow, Lies, stopOf, sizeOf, windowBytes}
+use Rattle.windows.specs.Window.{isReal, cellOf, stripOf, windowOf}
 use Rattle.windows.specs.declared.window.Window.{Window}
-use Rattle.windows.specs.declared.window.Run.{Run}
-use Rattle.windows.proofs.Bytes.{Bytes, bytes-take, bytes-drop, bytes-replicate, bytes-joined}
-use Rattle.windows.proofs.Pasted.{part-length, part-part, pasted-more}
-use Rattle.windows.proofs.Pasted.{joined-length, joined-same, joined-only, joined-add, joined-fill, joined-part}
+use Rattle.windows.specs.declared.window.Strip.{Strip}
+use Rattle.lists.proofs.Bytes.{Bytes, bytes-take, bytes-drop, bytes-replicate, bytes-joined}
+use Rattle.lists.proofs.Pasted.{part-length, part-part, pasted-more, joined-length, joined-same, joined-only, joined-add, joined-fill, joined-part}
 
 -- ---- the places of a padded side
 
@@ -234,26 +234,26 @@ module _ (w : Window) (t : List ℕ) (p q : ℕ) where
           cellAt w p (q + (first + b)) ≡ cellAt w p q + b * w .channels
       shift b h = rw h (omega arith)
 
--- ---- the numbers of a run
+-- ---- the numbers of a strip
 
--- a run ends within the tensor
-run-within :
+-- a strip ends within the tensor
+strip-within :
     (rows columns channels r k q n : ℕ) →
     r < rows →
     q ≤ columns + k →
     (r * columns + (q - k)) * channels + (min n (columns + k - q) - (k - q)) * channels ≤ rows * columns * channels
-run-within rows columns channels r k q n hr hq =
+strip-within rows columns channels r k q n hr hq =
     let h : r * columns + (q - k) + (min n (columns + k - q) - (k - q)) ≤ rows * columns =
     omega (arith, mul-le-mul-right {m = r + 1} {n = rows} columns (omega arith)) in
     omega (arith, mul-le-mul-right channels h)
 
--- the lead, the run and the tail make a row
-run-whole :
+-- the lead, the part in the tensor and the tail make a row
+strip-whole :
     (channels k q n columns from : ℕ) →
     k ≤ n →
     (k - q) * channels + (from + (min n (columns + k - q) - (k - q)) * channels) + (n - min n (columns + k - q)) * channels ≡
     n * channels + from
-run-whole channels k q n columns from hk =
+strip-whole channels k q n columns from hk =
     let e : k - q + (min n (columns + k - q) - (k - q)) + (n - min n (columns + k - q)) ≡ n = omega arith in
     whole (k - q) (min n (columns + k - q) - (k - q)) (n - min n (columns + k - q)) ∙ ap (λ (m : ℕ). m * channels + from) e
   where
@@ -261,7 +261,7 @@ run-whole channels k q n columns from hk =
     whole u v z = omega arith
 
 -- the cells before a row of the tensor
-pub line-bound : (w : Window) (r : ℕ) → Sound w → r < w .rows → r * w .columns ≤ 16384
+pub line-bound : (w : Window) (r : ℕ) → SmallWindow w → r < w .rows → r * w .columns ≤ 16384
 line-bound w r s h =
     omega (
       arith,
@@ -269,10 +269,10 @@ line-bound w r s h =
       mul-le-mul-left (w .rows * w .columns) (s .channels-some),
     )
 
--- a run, from what the code computes
-pub run-made :
+-- a strip, from what the code computes
+pub strip-made :
     (w : Window) (r q : ℕ) {first stop line skip from lead part tail : ℕ} →
-    Sound w →
+    SmallWindow w →
     r < w .rows →
     q ≤ w .columns + w .left →
     first ≡ w .left - q →
@@ -283,15 +283,15 @@ pub run-made :
     lead ≡ first * w .channels →
     part ≡ (stop - first) * w .channels →
     tail ≡ (w .width - stop) * w .channels →
-    Runs w r q (record { lead = lead; from = from; to = from + part; tail = tail })
-run-made w r q {from = from} s hr hq e₁ e₂ e₃ e₄ e₅ e₆ e₇ e₈ =
+    Lies w r q (record { lead = lead; from = from; to = from + part; tail = tail })
+strip-made w r q {from = from} s hr hq e₁ e₂ e₃ e₄ e₅ e₆ e₇ e₈ =
     record {
       lead = cc;
       start = cc;
       part = cc;
-      within = rw (e₇, e₅, e₃, e₄, e₂, e₁) (run-within (w .rows) (w .columns) (w .channels) r (w .left) q (w .width) hr hq);
+      within = rw (e₇, e₅, e₃, e₄, e₂, e₁) (strip-within (w .rows) (w .columns) (w .channels) r (w .left) q (w .width) hr hq);
       tail = cc;
-      whole = cc (run-whole (w .channels) (w .left) q (w .width) (w .columns) from (s .left));
+      whole = cc (strip-whole (w .channels) (w .left) q (w .width) (w .columns) from (s .left));
     }
 
 -- the one store of a row of padding
@@ -304,14 +304,14 @@ strip-filled w t d at p q h e = cc (strip-off w t p q h)
 
 -- the three stores of a row that meets the tensor
 pub strip-stored :
-    (w : Window) (t d : List ℕ) (at p q : ℕ) (k : Run) →
-    Sound w →
+    (w : Window) (t d : List ℕ) (at p q : ℕ) (k : Strip) →
+    SmallWindow w →
     length t ≡ sizeOf w →
     q ≤ w .columns + w .left →
     at ≤ length d →
     w .top ≤ p →
     p - w .top < w .rows →
-    Runs w (p - w .top) q k →
+    Lies w (p - w .top) q k →
     {d₁ d₂ d₃ : List ℕ} →
     d₁ ≡ pasted d at (replicate (k .lead) (w .zero)) →
     d₂ ≡ pasted d₁ (at + k .lead) (part t (k .from) (k .to - k .from)) →
@@ -332,10 +332,6 @@ strip-stored w t d at p q k s e hq ha hp hr u e₁ e₂ e₃ =
 
 -- ---- a window
 
--- a window has at most 7 · 7 · 256 bytes
-pub terms-bound : (w : Window) → Sound w → termsOf w ≤ 12544
-terms-bound w s = mul-le-mul (mul-le-mul (s .height) (s .width)) (s .channels)
-
 -- there is room for one more row of a window
 pub row-room : (h n k a : ℕ) {row at : ℕ} → row ≡ n * k → at ≡ a * row → a < h → at + row ≤ h * n * k
 row-room h n k a er ea g =
@@ -343,7 +339,7 @@ row-room h n k a er ea g =
 
 module _ (w : Window) (t : List ℕ) (p q : ℕ) where
   -- a window has a byte for each term of its sum
-  pub window-length : length t ≡ sizeOf w → length (windowOf w t p q) ≡ termsOf w
+  pub window-length : length t ≡ sizeOf w → length (windowOf w t p q) ≡ windowBytes w
   unfolding windowOf
   window-length e =
       joined-length (w .height) (w .width * w .channels) _ (λ a. strip-length w t (p + a) q e) ∙ omega arith

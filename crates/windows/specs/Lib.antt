@@ -1,3 +1,3 @@
 -- The definitions that the contracts of `windows` cite.
-pub mod Lists
 pub mod Window
+pub mod Asked

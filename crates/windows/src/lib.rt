@@ -1,4 +1,3 @@
 // Windows of a tensor: gathered into a patch in the order of the weights, and their sums.
-pub mod sums;
+pub mod dots;
 pub mod window;
-pub mod write;

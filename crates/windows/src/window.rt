@@ -1,11 +1,15 @@
 // A window gathered from a tensor into a patch.
 ghost use mathlib.Core.Path.{_≡_};
-ghost use Prim.Native.Nat.{_+_, _-_, _*_, _≤_, _<_, min};
+ghost use Prim.Native.Nat.{_+_, _-_, _*_, _≤_, _<_};
 ghost use lib.ListN.{length};
-ghost use Rattle.windows.specs.Lists.{pasted};
-ghost use Rattle.windows.specs.Window.{Sound, Runs, sizeOf, termsOf, stripOf, windowOf};
-use crate::write::copy_in;
-use crate::write::fill_in;
+ghost use Rattle.lists.specs.Lists.{pasted};
+ghost use Rattle.windows.specs.Asked.{SmallWindow, Lies, sizeOf, windowBytes};
+ghost use Rattle.windows.specs.Window.{stripOf, windowOf};
+use lists::write::copy_in;
+use lists::write::fill_in;
+use numbers::small::less;
+use numbers::small::smaller;
+use numbers::small::times;
 
 // The input tensor's shape and zero-point, the kernel's sides, and the rows and columns of padding above and to the left.
 pub struct Window {
@@ -19,46 +23,25 @@ pub struct Window {
     pub left: usize,
 }
 
-// What is left of a after b, and the smaller of two.
-fn less(a: usize, b: usize) -> usize
-    ensures { λ r. ⌜ r ≡ a - b ⌝ }
-{
-    if a < b { 0 } else { a - b }
-}
-
-fn smaller(a: usize, b: usize) -> usize
-    ensures { λ r. ⌜ r ≡ min a b ⌝ }
-{
-    if a < b { a } else { b }
-}
-
-// A product of small numbers: the proofs of index sums then stay linear.
-pub fn times(a: usize, b: usize) -> usize
-    requires { ⌜ (a ≤ 131072) × (b ≤ 16384) ⌝ }
-    ensures { λ r. ⌜ (r ≡ a * b) × (r ≤ 2147483648) ⌝ }
-{
-    a * b
-}
-
 // How a row of a window lies across the tensor, in bytes: lead before it, then those from `from` up to `to` of the
 // tensor, then tail after it.
-struct Run {
+struct Strip {
     lead: usize,
     from: usize,
     to: usize,
     tail: usize,
 }
 
-// The run at row r of the tensor, from column q of the padded tensor.
-fn run_of(w: Window, r: usize, q: usize) -> Run
-    requires { ⌜ Sound w ⌝ }
+// The strip at row r of the tensor, from column q of the padded tensor.
+fn strip_at(w: Window, r: usize, q: usize) -> Strip
+    requires { ⌜ SmallWindow w ⌝ }
     requires { ⌜ (r < w .rows) × (q ≤ w .columns + w .left) ⌝ }
-    ensures { λ k. ⌜ Runs w r q k ⌝ }
+    ensures { λ k. ⌜ Lies w r q k ⌝ }
 {
     let first = less(w.left, q);
     let stop = smaller(w.width, w.columns + w.left - q);
     let from = times(times(r, w.columns) + less(q, w.left), w.channels);
-    Run {
+    Strip {
         lead: times(first, w.channels),
         from,
         to: from + times(stop - first, w.channels),
@@ -68,7 +51,7 @@ fn run_of(w: Window, r: usize, q: usize) -> Run
 
 // One row of a window, from row p, column q of the padded tensor, to patch from at.
 fn put_strip(w: Window, t: &[u8], patch: &mut [u8], at: usize, p: usize, q: usize)
-    requires { ⌜ Sound w ⌝ }
+    requires { ⌜ SmallWindow w ⌝ }
     requires { ⌜ (length (now t) ≡ sizeOf w) × (q ≤ w .columns + w .left) ⌝ }
     requires { ⌜ at + w .width * w .channels ≤ length (now patch) ⌝ }
     ensures { λ _. ⌜ now (patch .exit) ≡ pasted (now (patch .entry)) at (stripOf w (now (t .entry)) p q) ⌝ }
@@ -86,7 +69,7 @@ fn put_strip(w: Window, t: &[u8], patch: &mut [u8], at: usize, p: usize, q: usiz
         fill_in(patch, at, all, zero);
         return;
     }
-    let k = run_of(w, r, q);
+    let k = strip_at(w, r, q);
     let lead = k.lead;
     let from = k.from;
     let to = k.to;
@@ -97,9 +80,9 @@ fn put_strip(w: Window, t: &[u8], patch: &mut [u8], at: usize, p: usize, q: usiz
 
 // The window from row p, column q of the padded tensor, to the front of patch.
 pub fn gather(w: Window, t: &[u8], patch: &mut [u8], p: usize, q: usize)
-    requires { ⌜ Sound w ⌝ }
+    requires { ⌜ SmallWindow w ⌝ }
     requires { ⌜ (length (now t) ≡ sizeOf w) × (q ≤ w .columns + w .left) × (p ≤ 131072) ⌝ }
-    requires { ⌜ termsOf w ≤ length (now patch) ⌝ }
+    requires { ⌜ windowBytes w ≤ length (now patch) ⌝ }
     ensures { λ _. ⌜ now (patch .exit) ≡ pasted (now (patch .entry)) 0 (windowOf w (now (t .entry)) p q) ⌝ }
 {
     let height = w.height;

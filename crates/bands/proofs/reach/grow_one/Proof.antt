@@ -10,13 +10,17 @@ band-of-requires : tie.Need-band-of-requires
 band-of-requires c κs = search needs
 
 reached-requires : tie.Need-reached-requires
-reached-requires c κs = (omega (arith, ap (λ b. b .end) (c .band-of .ensures)), c .before .pre .1 .0, c .before .pre .1 .1, c .before .pre .1 .2, c .before .pre .1 .3)
+reached-requires c κs =
+    let p = c .before .pre .1 in
+    (omega (arith, ap (λ b. b .end) (c .band-of .ensures)), p .0, p .1, p .2, p .3)
 
 band-of-requires-2 : tie.Need-band-of-requires-2
 band-of-requires-2 c κs = search needs
 
 reached-requires-2 : tie.Need-reached-requires-2
-reached-requires-2 c κs = (omega (arith, ap (λ b. b .end) (c .band-of2 .ensures)), c .before .before .before .pre .1 .0, c .before .before .before .pre .1 .1, c .before .before .before .pre .1 .2, c .before .before .before .pre .1 .3)
+reached-requires-2 c κs =
+    let p = c .before .before .before .pre .1 in
+    (omega (arith, ap (λ b. b .end) (c .band-of2 .ensures)), p .0, p .1, p .2, p .3)
 
 add-band-of : tie.Need-add-band-of
 add-band-of c = search needs
@@ -38,8 +42,12 @@ with-band-requires c κs = search needs
 
 returns : tie.Need-returns
 returns c =
-    grow-turn (c .before .before .before .before .before .before .before .before .args .s) (c .with-band .result) (c .before .before .before .before .before .before .before .before .args .y) (c .before .before .before .before .before .before .before .before .args .m) _ _ _ _ _ _ _
-    (c .before .before .before .before .before .before .before .band-of .ensures) (c .before .before .before .before .before .band-of2 .ensures) (c .before .before .before .band-of3 .ensures) (c .before .before .before .before .before .before .reached .ensures) (c .before .before .before .before .reached2 .ensures) (c .before .before .cover .ensures) (c .before .cover2 .ensures) (c .with-band .ensures)
+    let o = c .before .before .before in
+    let b = o .before .before in
+    let a = b .before .before in
+    let s = a .before .args in
+    grow-turn (s .s) (c .with-band .result) (s .y) (s .m) _ _ _ _ _ _ _ (a .band-of .ensures) (b .band-of2 .ensures) (o .band-of3 .ensures)
+    (b .before .reached .ensures) (o .before .reached2 .ensures) (c .before .before .cover .ensures) (c .before .cover2 .ensures) (c .with-band .ensures)
 
 pub grow-one-spec : {M : Type 1} → statement M
 grow-one-spec =

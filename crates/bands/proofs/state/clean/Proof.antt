@@ -7,10 +7,10 @@ use mathlib.Core.Bool.{true}
 use borrow.Author.Needs.{needs}
 use borrow.Author.Tests.{le-leb, lt-leb}
 use lib.ListN.{getD}
-use Rattle.bands.specs.Choice.{every}
+use Rattle.lists.specs.Choice.{every}
 use Rattle.bands.specs.Band.{none, isEmpty}
 use Rattle.bands.specs.State.{bandOf, clean}
-use Rattle.bands.proofs.Choice.{every-more, every-not}
+use Rattle.lists.proofs.Choice.{every-more, every-not}
 use Rattle.bands.proofs.state.clean.Statement.{statement}
 use Rattle.bands.proofs.state.clean.Tie as tie
 
@@ -32,7 +32,9 @@ array-copy-out-b c = search needs
 
 returns : tie.Need-returns Inv-loop μ-loop
 unfolding clean
-returns c = sym (every-not (λ k. isEmpty (bandOf (c .before .before .before .before .before .before .args .s) k)) 17 (c .before .before .before .before .loop .t) (c .before .before .before .loop-test .taken) (lt-leb _ _ (c .if1 .taken)))
+returns c =
+    let l = c .before .before .before .before in
+    sym (every-not (λ k. isEmpty (bandOf (l .before .before .args .s) k)) 17 (l .loop .t) (c .before .before .before .loop-test .taken) (lt-leb _ _ (c .if1 .taken)))
 
 add-t : tie.Need-add-t Inv-loop μ-loop
 add-t c = search needs
@@ -42,7 +44,8 @@ loop-less c = search needs
 
 loop-again : tie.Need-loop-again Inv-loop μ-loop
 loop-again c =
-    (search needs, rw add-one (every-more (λ k. isEmpty (bandOf (c .before .before .before .before .before .before .args .s) k)) (c .before .before .before .before .loop .t) (c .before .before .before .before .loop .inv .1) (le-leb _ _ (c .if1 .left))))
+    let l = c .before .before .before .before in
+    (search needs, rw add-one (every-more (λ k. isEmpty (bandOf (l .before .before .args .s) k)) (l .loop .t) (l .loop .inv .1) (le-leb _ _ (c .if1 .left))))
 
 returns-2 : tie.Need-returns-2 Inv-loop μ-loop
 unfolding clean

@@ -7,9 +7,9 @@ use native.Mathlib.Numerals.{add-one}
 use mathlib.Core.Bool.{true}
 use borrow.Author.Needs.{needs}
 use borrow.Author.Tests.{not-true, not-false}
-use Rattle.bands.specs.Choice.{every}
+use Rattle.lists.specs.Choice.{every}
 use Rattle.bands.specs.State.{fairAt, stateFault}
-use Rattle.bands.proofs.Choice.{every-more}
+use Rattle.lists.proofs.Choice.{every-more}
 use Rattle.bands.proofs.States.{tested, refused}
 use Rattle.bands.proofs.state.state_fault.Statement.{statement}
 use Rattle.bands.proofs.state.state_fault.Tie as tie
@@ -43,13 +43,22 @@ is-absent-requires : tie.Need-is-absent-requires Inv-loop μ-loop
 is-absent-requires c κs = search needs
 
 -- what the turn's test says of tensor t
-fine-is : (c : tie.Joined1 Inv-loop μ-loop) → c .if1 .fine ≡ fairAt (c .before .before .before .before .before .before .args .s) (c .before .before .before .before .before .before .args .n) (c .before .before .before .loop .t)
+fine-is :
+    (c : tie.Joined1 Inv-loop μ-loop) →
+    let l = c .before .before .before in
+    let a = l .before .before .before .args in
+    c .if1 .fine ≡ fairAt (a .s) (a .n) (l .loop .t)
 fine-is c =
-    tested (c .before .before .before .before .before .before .args .s) (c .before .before .before .before .before .before .args .n) (c .before .before .before .loop .t) (c .if1 .fine)
+    let l = c .before .before .before in
+    let a = l .before .before .before .args in
+    tested (a .s) (a .n) (l .loop .t) (c .if1 .fine)
     (⊎-elim (λ w. inl (w .0 .taken, w .2 ∙ w .1 .ensures)) (λ w. inr (w .0 .left, w .2 ∙ w .1 .ensures)) (c .if1 .came))
 
 returns : tie.Need-returns Inv-loop μ-loop
-returns c = sym (refused (c .before .before .before .before .before .before .before .args .s) (c .before .before .before .before .before .before .before .args .n) (c .before .before .before .before .loop .t) (c .before .before .before .loop-test .taken) (sym (fine-is (c .before)) ∙ not-true _ (c .if2 .taken)))
+returns c =
+    let l = c .before .before .before .before in
+    let a = l .before .before .before .args in
+    sym (refused (a .s) (a .n) (l .loop .t) (c .before .before .before .loop-test .taken) (sym (fine-is (c .before)) ∙ not-true _ (c .if2 .taken)))
 
 add-t : tie.Need-add-t Inv-loop μ-loop
 add-t c = search needs
@@ -58,10 +67,10 @@ loop-less : tie.Need-loop-less Inv-loop μ-loop
 loop-less c = search needs
 
 loop-again : tie.Need-loop-again Inv-loop μ-loop
-loop-again c = (
-  search needs,
-  rw add-one (every-more (fairAt (c .before .before .before .before .before .before .before .args .s) (c .before .before .before .before .before .before .before .args .n)) (c .before .before .before .before .loop .t) (c .before .before .before .before .loop .inv .1) (sym (fine-is (c .before)) ∙ not-false _ (c .if2 .left))),
-)
+loop-again c =
+    let l = c .before .before .before .before in
+    let a = l .before .before .before .args in
+    (search needs, rw add-one (every-more (fairAt (a .s) (a .n)) (l .loop .t) (l .loop .inv .1) (sym (fine-is (c .before)) ∙ not-false _ (c .if2 .left))))
 
 returns-2 : tie.Need-returns-2 Inv-loop μ-loop
 unfolding stateFault

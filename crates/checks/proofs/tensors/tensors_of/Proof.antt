@@ -1,25 +1,25 @@
--- `checks::tensors::tensors_of` meets its contract: the loop's invariant is that the rows of each tensor before t stand in the array.
+-- `checks::tensors::tensors_of` meets its contract. The loop's invariant: the rows of the first t tensors are laid.
 -- Assumes nothing.
-use Prim.Native.Nat.{ℕ, _≤_, _-_}
-use mathlib.Core.Path.{_≡_, ap}
-use mathlib.Core.List.{List}
+use Prim.Native.Nat.{ℕ, _-_}
+use mathlib.Core.Path.{ap}
+use mathlib.Core.List.{List, [], _∷_}
 use native.Mathlib.Omega.{arith}
-use lib.ListN.{length-replicate}
+use lib.ListN.{replicate}
 use borrow.Author.Needs.{needs}
 use Rattle.fields.specs.declared.shape.Shape.{Shape}
 use Rattle.network.specs.Network.{tensorOf}
-use Rattle.checks.proofs.Numbers.{Told, told-more, told-all}
+use Rattle.lists.proofs.Laid.{Laid, laid-none, laid-array-store, laid-array}
 use Rattle.checks.proofs.tensors.tensors_of.Statement.{statement}
 use Rattle.checks.proofs.tensors.tensors_of.Tie as tie
 
 abbrev Inv-loop : tie.InvT-loop
-Inv-loop n rows₀ t₀ rows t = (t ≤ 17) × Told (λ k. tensorOf n k .rows) rows t
+Inv-loop n rows₀ t₀ rows t = Laid 17 (λ k. tensorOf n k .rows ∷ []) (replicate 17 0) 0 rows t
 
 abbrev μ-loop : tie.MeasureT-loop
 μ-loop n rows₀ t₀ rows t = 17 - t
 
 loop-holds : tie.Need-loop-holds Inv-loop μ-loop
-loop-holds c = (search needs, record { long = length-replicate {A = ℕ} 17 0; told = λ k h. absurd (omega arith) })
+loop-holds c = laid-none _ _ _ _
 
 tensor-requires : tie.Need-tensor-requires Inv-loop μ-loop
 tensor-requires c κs = omega arith
@@ -40,12 +40,16 @@ loop-less : tie.Need-loop-less Inv-loop μ-loop
 loop-less c = search needs
 
 loop-again : tie.Need-loop-again Inv-loop μ-loop
-loop-again c = (search needs, told-more _ _ _ _ (c .before .before .before .loop .inv .1) (c .before .before .loop-test .taken) (ap (λ (x : Shape). x .rows) (c .before .tensor .ensures)))
+loop-again c =
+    let l = c .before .before .before in
+    laid-array-store 17 (λ k. tensorOf (l .before .args .n) k .rows) 0 (l .loop .t) (c .before .before .loop-test .taken) (l .loop .inv)
+    (ap (λ (x : Shape). x .rows) (c .before .tensor .ensures))
 
 returns : tie.Need-returns Inv-loop μ-loop
 returns c =
-    let e : c .before .loop .t ≡ 17 = omega arith in
-    ap (λ (l : List ℕ). record { count = c .before .before .args .n .count; rows = l }) (told-all _ _ (rw e at (c .before .loop .inv .1)))
+    let n = c .before .before .args .n in
+    ap (λ (l : List ℕ). record { count = n .count; rows = l })
+    (laid-array 17 (λ k. tensorOf n k .rows) 0 (c .before .loop .inv) (c .loop-test .left))
 
 pub tensors-of-spec : {M : Type 1} → statement M
 tensors-of-spec =

@@ -2,7 +2,8 @@
 use Prim.Native.Nat.{_+_, _≤_, _<_}
 use native.Mathlib.Omega.{arith}
 use borrow.Author.Tests.{le-leb, lt-leb, eq-eqb, ne-eqb}
-use Rattle.fields.specs.Shape.{rowBytes, GoodShape}
+use Rattle.fields.specs.Shape.{rowBytes}
+use Rattle.fields.specs.Asked.{GoodShape}
 use Rattle.fields.specs.declared.shape.Shape.{Shape}
 use Rattle.fields.proofs.Shapes.{mul-most}
 use Rattle.checks.specs.Tests.{rowsFault}

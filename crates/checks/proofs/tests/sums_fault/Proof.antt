@@ -9,8 +9,8 @@ use borrow.Author.Tests.{not-true, not-false}
 use Rattle.records.specs.declared.layer.Layer.{Layer}
 use Rattle.network.specs.Network.{layerOf}
 use Rattle.network.proofs.Bounds.{terms-few}
-use Rattle.bands.specs.Choice.{every}
-use Rattle.bands.proofs.Choice.{every-more, every-not}
+use Rattle.lists.specs.Choice.{every}
+use Rattle.lists.proofs.Choice.{every-more, every-not}
 use Rattle.checks.specs.Tests.{layerSumsFit, sumsFault}
 use Rattle.checks.proofs.Rows.{input-good}
 use Rattle.checks.proofs.tests.sums_fault.Statement.{statement}

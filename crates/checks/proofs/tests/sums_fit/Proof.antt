@@ -7,8 +7,8 @@ use native.Mathlib.Numerals.{add-one}
 use borrow.Author.Needs.{needs}
 use borrow.Author.Tests.{le-leb, lt-leb}
 use lib.ListN.{length, getD}
-use Rattle.bands.specs.Choice.{every}
-use Rattle.bands.proofs.Choice.{every-more, every-not}
+use Rattle.lists.specs.Choice.{every}
+use Rattle.lists.proofs.Choice.{every-more, every-not}
 use Rattle.checks.proofs.Sums.{sumIn, fits-as}
 use Rattle.checks.proofs.tests.sums_fit.Statement.{statement}
 use Rattle.checks.proofs.tests.sums_fit.Tie as tie

@@ -6,7 +6,7 @@ use mathlib.Core.Path.{_≡_, refl}
 use denote.Ref.{now}
 use lib.ListN.{length}
 use Rattle.fields.proofs.Tests.{met, passed}
-use Rattle.windows.specs.Lists.{pasted}
+use Rattle.lists.specs.Lists.{pasted}
 use Rattle.layers.specs.Sums.{layerSums}
 use Rattle.bands.specs.State.{replaced}
 use Rattle.clew.specs.Calls.{outcome}

@@ -25,8 +25,8 @@ returns c =
     let a = c .before .before .before .before .before .before .before .before .args in
     both (update-refused (now (a .file)) (now (a .sums)) (now (a .area)) (a .state) (c .before .before .before .before .test-call .ensures .0) (c .before .if1 .taken)) (rw (c .plain .ensures)) refl
 
-run-requires : tie.Need-run-requires
-run-requires c κs = let p = inside (c .before) in (p .can, λ t h. omega (arith, p .fair t h))
+recompute-requires : tie.Need-recompute-requires
+recompute-requires c κs = let p = inside (c .before) in (p .can, λ t h. omega (arith, p .fair t h))
 
 all-empty-requires : tie.Need-all-empty-requires
 all-empty-requires c κs = search needs
@@ -38,8 +38,8 @@ returns-2 : tie.Need-returns-2
 returns-2 c =
     let a = c .before .before .before .before .before .before .before .before .before .before .before .before .args in
     both (update-done (now (a .file)) (now (a .sums)) (now (a .area)) (a .state) (inside (c .before .before .before .before .before)))
-    (rw (← (c .before .before .before .run .ensures .0), c .all-empty .ensures))
-    (rw (c .before .before .before .run .ensures .1))
+    (rw (← (c .before .before .before .recompute .ensures .0), c .all-empty .ensures))
+    (rw (c .before .before .before .recompute .ensures .1))
 
 pub update-spec : {M : Type 1} → statement M
 update-spec =
@@ -48,7 +48,7 @@ update-spec =
     test-call-requires
     plain-requires
     returns
-    run-requires
+    recompute-requires
     all-empty-requires
     same-length
     returns-2)

@@ -1,25 +1,20 @@
--- `clew_c::flat::numbers_of` meets its contract: the loop's invariant is that the bands of the tensors before t are written.
+-- `clew_c::flat::numbers_of` meets its contract. The loop's invariant: the numbers of the first t bands are written.
 -- Assumes nothing.
-use Prim.Native.Nat.{ℕ, _≤_, _-_, _+_, _*_}
-use mathlib.Core.Path.{_≡_, refl, sym, _∙_}
-use native.Mathlib.Omega.{arith}
-use lib.ListN.{length, set, take, length-set, length-replicate}
-use lib.Seq.{take-all}
+use Prim.Native.Nat.{_-_}
 use borrow.Author.Needs.{needs}
-use Rattle.clew_c.specs.Flat.{flatTo}
-use Rattle.clew_c.proofs.Flats.{flat-more}
+use Rattle.lists.proofs.Laid.{laid-none}
+use Rattle.clew_c.proofs.Flats.{Written, written-more, written-all}
 use Rattle.clew_c.proofs.flat.numbers_of.Statement.{statement}
 use Rattle.clew_c.proofs.flat.numbers_of.Tie as tie
 
 abbrev Inv-loop : tie.InvT-loop
-Inv-loop bands numbers₀ t₀ numbers t = (t ≤ 17) × (length numbers ≡ 34) × (take (2 * t) numbers ≡ flatTo (record { bands = bands }) t)
+Inv-loop bands numbers₀ t₀ numbers t = Written (record { bands = bands }) numbers t
 
 abbrev μ-loop : tie.MeasureT-loop
 μ-loop bands numbers₀ t₀ numbers t = 17 - t
 
 loop-holds : tie.Need-loop-holds Inv-loop μ-loop
-unfolding flatTo
-loop-holds c = (search needs, length-replicate {A = ℕ} 34 0, refl)
+loop-holds c = laid-none _ _ _ _
 
 mul-b : tie.Need-mul-b Inv-loop μ-loop
 mul-b c = search needs
@@ -55,16 +50,12 @@ loop-less : tie.Need-loop-less Inv-loop μ-loop
 loop-less c = search needs
 
 loop-again : tie.Need-loop-again Inv-loop μ-loop
-loop-again c = (
-  search needs,
-  length-set (set (c .before .before .loop .numbers) (2 * c .before .before .loop .t) _) (2 * c .before .before .loop .t + 1) _ ∙ length-set (c .before .before .loop .numbers) (2 * c .before .before .loop .t) _ ∙ c .before .before .loop .inv .1,
-  flat-more (c .before .before .before .before .args .s) (c .before .before .loop .numbers) (c .before .before .loop .t) _ _ (omega (arith, c .before .before .loop .inv .1, c .before .loop-test .taken)) (c .before .before .loop .inv .2) refl refl,
-)
+loop-again c =
+    let l = c .before .before in
+    written-more (l .before .before .args .s) (l .loop .numbers) (l .loop .t) (c .before .loop-test .taken) (l .loop .inv)
 
 returns : tie.Need-returns Inv-loop μ-loop
-returns c =
-    let e : c .before .loop .t ≡ 17 = omega arith in
-    sym (take-all 34 (c .before .loop .numbers) (omega (arith, c .before .loop .inv .1))) ∙ rw e at (c .before .loop .inv .2)
+returns c = written-all (c .before .before .before .args .s) (c .before .loop .inv) (c .loop-test .left)
 
 pub numbers-of-spec : {M : Type 1} → statement M
 numbers-of-spec =

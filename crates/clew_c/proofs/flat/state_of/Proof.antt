@@ -1,15 +1,13 @@
--- `clew_c::flat::state_of` meets its contract: the loop's invariant is that the bands of the tensors before t stand in the array.
+-- `clew_c::flat::state_of` meets its contract. The loop's invariant: the bands of the first t tensors are laid.
 -- Assumes nothing.
-use Prim.Native.Nat.{ℕ, _≤_, _-_, _+_, _*_}
-use mathlib.Core.Path.{_≡_, refl, ap, _∙_}
-use mathlib.Core.List.{List, append-nil}
-use native.Mathlib.Omega.{arith}
-use lib.ListN.{getD}
+use Prim.Native.Nat.{ℕ, _-_, _+_, _*_}
+use mathlib.Core.Path.{refl, ap}
+use mathlib.Core.List.{List, [], _∷_}
+use lib.ListN.{getD, replicate}
 use borrow.Author.Needs.{needs}
 use Rattle.bands.specs.declared.band.Band.{Band}
-use Rattle.bands.specs.Band.{band}
-use Rattle.bands.specs.State.{table}
-use Rattle.bands.proofs.Table.{filled, fill-store}
+use Rattle.bands.specs.Band.{band, none}
+use Rattle.lists.proofs.Laid.{Laid, laid-none, laid-array-store, laid-array}
 use Rattle.clew_c.specs.Flat.{stateOf}
 use Rattle.clew_c.proofs.flat.state_of.Statement.{statement}
 use Rattle.clew_c.proofs.flat.state_of.Tie as tie
@@ -19,14 +17,13 @@ abbrev two : List ℕ → ℕ → Band
 two l t = band (getD l (2 * t) 0) (getD l (2 * t + 1) 0)
 
 abbrev Inv-loop : tie.InvT-loop
-Inv-loop numbers bands₀ t₀ bands t = (t ≤ 17) × (bands ≡ filled (two numbers) t)
+Inv-loop numbers bands₀ t₀ bands t = Laid 17 (λ k. two numbers k ∷ []) (replicate 17 none) 0 bands t
 
 abbrev μ-loop : tie.MeasureT-loop
 μ-loop numbers bands₀ t₀ bands t = 17 - t
 
 loop-holds : tie.Need-loop-holds Inv-loop μ-loop
-unfolding table
-loop-holds c = (search needs, refl)
+loop-holds c = laid-none _ _ _ _
 
 mul-t6 : tie.Need-mul-t6 Inv-loop μ-loop
 mul-t6 c = search needs
@@ -62,16 +59,15 @@ loop-less : tie.Need-loop-less Inv-loop μ-loop
 loop-less c = search needs
 
 loop-again : tie.Need-loop-again Inv-loop μ-loop
-loop-again c = (
-  search needs,
-  fill-store (two (c .before .before .before .before .args .numbers .now)) (c .before .before .before .loop .t) (c .before .before .before .loop .bands) _ (c .before .before .loop-test .taken) (c .before .before .before .loop .inv .1) refl,
-)
+loop-again c =
+    let l = c .before .before .before in
+    laid-array-store 17 (two (l .before .args .numbers .now)) none (l .loop .t) (c .before .before .loop-test .taken) (l .loop .inv) refl
 
 returns : tie.Need-returns Inv-loop μ-loop
 unfolding stateOf
 returns c =
-    let e : c .before .loop .t ≡ 17 = omega arith in
-    ap (λ (l : List Band). record { bands = l }) (c .before .loop .inv .1 ∙ ap (filled (two (c .before .before .args .numbers .now))) e ∙ append-nil _)
+    ap (λ (l : List Band). record { bands = l })
+    (laid-array 17 (two (c .before .before .args .numbers .now)) none (c .before .loop .inv) (c .loop-test .left))
 
 pub state-of-spec : {M : Type 1} → statement M
 state-of-spec =

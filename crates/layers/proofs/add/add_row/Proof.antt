@@ -7,10 +7,10 @@ use native.Mathlib.Omega.{arith}
 use denote.Ref.{now}
 use lib.ListN.{length, getD}
 use Rattle.fields.specs.Shape.{bytesOf, rowBytes}
-use Rattle.windows.proofs.Pasted.{apart-within}
+use Rattle.lists.proofs.Pasted.{apart-within}
 use Rattle.layers.specs.Add.{addByte}
-use Rattle.layers.specs.Row.{Placed}
-use Rattle.layers.proofs.Laid.{Laid, laid-none, laid-store, laid-done, laid-at}
+use Rattle.layers.specs.Asked.{Placed}
+use Rattle.lists.proofs.Laid.{Laid, laid-none, laid-store, laid-done, laid-at}
 use Rattle.layers.proofs.Rows.{row-in, row-skip, add-done}
 use Rattle.layers.proofs.add.add_row.Statement.{statement}
 use Rattle.layers.proofs.add.add_row.Tie as tie
@@ -93,7 +93,7 @@ kept c from p =
     let skip = t .times2 .result in
     let i = inside t in
     let w = t .before .times .result in
-    laid-at _ _ (now (a .area)) (a .y .place + skip) (from + skip + c .before .loop .k) (λ j. refl)
+    laid-at _ _ (now (a .area)) (a .y .place + skip) 0 (from + skip + c .before .loop .k) (λ j. refl)
     (apart-within (bytesOf (a .y .input)) (bytesOf (a .y .output)) 1 w (p .apart) (omega arith) (omega arith) (omega arith) (omega arith))
     (omega arith) (c .before .loop .inv)
 

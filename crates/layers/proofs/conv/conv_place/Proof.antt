@@ -7,12 +7,13 @@ use native.Mathlib.Omega.{arith}
 use borrow.Author.Needs.{needs}
 use denote.Ref.{now}
 use lib.ListN.{length, take}
-use Rattle.windows.specs.Lists.{pasted, part}
-use Rattle.windows.specs.Window.{sizeOf, termsOf, windowOf}
-use Rattle.windows.proofs.Pasted.{part-length}
+use Rattle.lists.specs.Lists.{pasted, part}
+use Rattle.windows.specs.Asked.{sizeOf, windowBytes}
+use Rattle.windows.specs.Window.{windowOf}
+use Rattle.lists.proofs.Pasted.{part-length}
 use Rattle.windows.proofs.Windows.{window-length}
 use Rattle.layers.specs.Outputs.{outputsOf}
-use Rattle.layers.proofs.Laid.{cut-length}
+use Rattle.lists.proofs.Laid.{cut-length}
 use Rattle.layers.proofs.Convs.{cells-few, taps-few, product, patch-is}
 use Rattle.layers.proofs.conv.conv_place.Statement.{statement}
 use Rattle.layers.proofs.conv.conv_place.Tie as tie
@@ -30,7 +31,7 @@ times-requires-4 : tie.Need-times-requires-4
 times-requires-4 c κs = omega (arith, cells-few (c .before .before .before .before .before .before .before .args .w) (c .before .before .before .before .before .before .before .pre .0))
 
 -- the bytes of a window, and of the tensor
-terms : (c : tie.After-times2) → c .times2 .result ≡ termsOf (c .before .before .before .before .before .before .args .w)
+terms : (c : tie.After-times2) → c .times2 .result ≡ windowBytes (c .before .before .before .before .before .before .args .w)
 terms c = let w = c .before .before .before .before .before .before .args .w in product (w .height) (w .width) (w .channels) (c .before .times .ensures .0) (c .times2 .ensures .0)
 
 size : (c : tie.After-times4) → c .times4 .result ≡ sizeOf (c .before .before .before .before .before .before .before .before .args .w)
@@ -70,7 +71,7 @@ front c =
     let a = s .args in
     patch-is (a .w) (now (a .area)) (now (a .patch)) (a .from) (a .p) (a .q) (size t) (terms (t .before .before)) (omega (arith, s .pre .1 .1 .0)) (c .gather .ensures)
 
-front-length : (c : tie.After-gather) → length (take (c .before .before .before .before .before .before .times2 .result) (c .gather .last .1 .1 .0)) ≡ termsOf (c .before .before .before .before .before .before .before .before .before .before .before .before .args .w)
+front-length : (c : tie.After-gather) → length (take (c .before .before .before .before .before .before .times2 .result) (c .gather .last .1 .1 .0)) ≡ windowBytes (c .before .before .before .before .before .before .before .before .before .before .before .before .args .w)
 front-length c =
     let s = c .before .before .before .before .before .before .before .before .before .before .before .before in
     let a = s .args in

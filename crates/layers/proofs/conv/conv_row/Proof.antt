@@ -7,7 +7,7 @@ use Rattle.layers.proofs.conv.conv_row.Tie as tie
 plain-row-requires : tie.Need-plain-row-requires
 plain-row-requires c κs =
     let p = c .before .before .before .before .before .before .before .before .before .before .before .pre in
-    (p .0, (p .1 .0, (p .1 .1 .0, (c .before .before .before .before .before .if1 .taken, c .before .before .before .if2 .taken, c .before .if3 .taken))))
+    (p .0, (c .before .before .before .before .before .if1 .taken, c .before .before .before .if2 .taken, c .before .if3 .taken))
 
 same-length : tie.Need-same-length
 same-length c = search needs

@@ -20,12 +20,12 @@ cast-total c = search needs
 
 total-requires : tie.Need-total-requires
 total-requires c κs =
-    let s = c .before .before .before in
+    let s = c .before .before .before .before in
     let a = s .args in
-    total-ready (a .bias) (now (a .q)) (now (a .w)) (a .stored) (a .o .z) (a .o .v)
+    total-ready (a .bias) (now (a .q)) (now (a .w)) (a .stored) (a .o .z) (a .o .weighing .v)
     (toZ-ofZ w32 _ (s .fits .bias)) (c .dot .ensures .0) (s .pre .0 .2)
     (s .pre .1 .0 .0) (s .pre .0 .0) (s .pre .0 .1)
-    (λ i. omega (arith, c .before .before .shared-slice-known .given i)) (λ i. omega (arith, c .before .shared-slice-known2 .given i))
+    (λ i. omega (arith, c .before .before .before .shared-slice-known .given i)) (λ i. omega (arith, c .before .before .shared-slice-known2 .given i))
     (s .pre .1 .0 .1) (omega arith) (omega arith)
 
 rescale-requires : tie.Need-rescale-requires
@@ -36,15 +36,15 @@ finish-requires c κs = search needs
 
 returns : tie.Need-returns
 returns c =
-    let s = c .before .before .before .before .before .before in
+    let s = c .before .before .before .before .before .before .before in
     let a = s .args in
-    let o = a .o in
+    let by = a .o .weighing in
     c .finish .ensures ∙
-    ap (λ z. finished z (o .zero) (o .low) (o .high))
+    ap (λ z. finished z (by .zero) (by .low) (by .high))
     (toZ-ofZ w32 _ (sfits-of (c .before .rescale .ok)) ∙ c .before .rescale .ensures ∙
-    ap (λ z. rescaled z (o .scale .multiplier) (o .scale .shift))
+    ap (λ z. rescaled z (by .scale .multiplier) (by .scale .shift))
     (toZ-ofZ w32 _ (sfits-of (c .before .before .total .ok)) ∙ c .before .before .total .ensures ∙
-    total-is (a .bias) (now (a .q)) (now (a .w)) (a .stored) (o .z) (o .v)
+    total-is (a .bias) (now (a .q)) (now (a .w)) (a .stored) (a .o .z) (by .v)
     (toZ-ofZ w32 _ (s .fits .bias)) (c .before .before .before .dot .ensures .0) (s .pre .0 .2)))
 
 pub output-spec : {M : Type 1} → statement M

@@ -11,7 +11,7 @@ use mir.Syntax.{w32}
 use mir.Val.{toZ, ofZ}
 use mir.ValLaws.{toZ-ofZ}
 use Rattle.fields.specs.Bytes.{signed, i32At}
-use Rattle.layers.proofs.Laid.{room, cut-is, cut-length}
+use Rattle.lists.proofs.Laid.{room, cut-is, cut-length}
 use Rattle.layers.proofs.Totals.{output-is}
 use Rattle.layers.proofs.outputs.output_at.Statement.{statement}
 use Rattle.layers.proofs.outputs.output_at.Tie as tie
@@ -82,7 +82,7 @@ output-requires c κs =
     let f = s .pre .1 .0 in
     let small : natAbs (toZ w32 (ofZ w32 (b .signed-of .result))) ≤ 2 ^ 30 = rw (bias b) (r .biases-small (a .f) f) in (
       (sym (cut-length (now (a .file)) (a .o .weights + a .f * length q) (length q) (inside s)), r .terms-few, s .pre .1 .1),
-      ((small, r .sums-small (a .f) f), (r .clamp, r .multiplier-few, r .shift-few)),
+      ((small, r .sums-small (a .f) f), r .weighing),
     )
 
 returns : tie.Need-returns

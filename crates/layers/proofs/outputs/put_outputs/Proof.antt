@@ -5,7 +5,7 @@ use Prim.Native.Nat.{_-_}
 use native.Mathlib.Omega.{arith}
 use denote.Ref.{now}
 use Rattle.layers.specs.Outputs.{outputOf, outputsOf}
-use Rattle.layers.proofs.Laid.{Laid, laid-none, laid-store, laid-done}
+use Rattle.lists.proofs.Laid.{Laid, laid-none, laid-store, laid-done}
 use Rattle.layers.proofs.outputs.put_outputs.Statement.{statement}
 use Rattle.layers.proofs.outputs.put_outputs.Tie as tie
 

@@ -7,10 +7,10 @@ use native.Mathlib.Nat.{mul-one}
 use native.Mathlib.Omega.{arith}
 use denote.Ref.{now}
 use Rattle.numbers.specs.Total.{sum}
-use Rattle.windows.specs.Lists.{part}
-use Rattle.windows.proofs.Pasted.{part-length}
+use Rattle.lists.specs.Lists.{part}
+use Rattle.lists.proofs.Pasted.{part-length}
 use Rattle.layers.specs.Outputs.{outputOf, outputsOf}
-use Rattle.layers.proofs.Laid.{Laid, laid-none, laid-store, laid-done, laid-apart, cut-is, cut-length}
+use Rattle.lists.proofs.Laid.{Laid, laid-none, laid-store, laid-done, laid-apart, cut-is, cut-length}
 use Rattle.layers.proofs.outputs.put_within.Statement.{statement}
 use Rattle.layers.proofs.outputs.put_within.Tie as tie
 

@@ -6,7 +6,7 @@ use native.Mathlib.Omega.{arith}
 use denote.Ref.{now}
 use lib.ListN.{length}
 use Rattle.fields.specs.Shape.{rowBytes}
-use Rattle.layers.proofs.Laid.{Laid, laid-none, laid-done}
+use Rattle.lists.proofs.Laid.{Laid, laid-none, laid-done}
 use Rattle.layers.proofs.Rows.{rowFrom, rows-turn}
 use Rattle.layers.proofs.row.put_rows.Statement.{statement}
 use Rattle.layers.proofs.row.put_rows.Tie as tie

@@ -7,8 +7,8 @@ use native.Mathlib.Omega.{arith}
 use denote.Ref.{now}
 use lib.ListN.{length}
 use Rattle.numbers.specs.Total.{sum}
-use Rattle.windows.specs.Lists.{pasted, part}
-use Rattle.layers.proofs.Laid.{Laid, room, laid-none, laid-store, laid-done, cut-is, cut-length}
+use Rattle.lists.specs.Lists.{pasted, part}
+use Rattle.lists.proofs.Laid.{Laid, room, laid-none, laid-store, laid-done, cut-is, cut-length}
 use Rattle.layers.proofs.Weights.{sums-are}
 use Rattle.layers.proofs.sums.put_sums.Statement.{statement}
 use Rattle.layers.proofs.sums.put_sums.Tie as tie

@@ -4,13 +4,13 @@
 use borrow.Author.Needs.{needs}
 use mathlib.Core.Path.{_≡_, refl}
 use native.Mathlib.Omega.{arith}
-use Rattle.network.specs.Decode.{runOf}
-use Rattle.network.proofs.Runs.{Fine, fine-next, loop-starts, loop-turns, loop-ends, too-long}
+use Rattle.network.specs.Decode.{stepsOf}
+use Rattle.network.proofs.Layers.{Fine, fine-next, loop-starts, loop-turns, loop-ends, too-long}
 use Rattle.network.proofs.file.decode.Statement.{statement}
 use Rattle.network.proofs.file.decode.Tie as tie
 
 abbrev Inv-loop : tie.InvT-loop
-Inv-loop file p₀ left₀ p left = (runOf file left p ≡ runOf file left₀ p₀) × Fine file left p
+Inv-loop file p₀ left₀ p left = (stepsOf file left p ≡ stepsOf file left₀ p₀) × Fine file left p
 
 abbrev μ-loop : tie.MeasureT-loop
 μ-loop file p₀ left₀ p left = left

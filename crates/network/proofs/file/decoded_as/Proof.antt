@@ -1,7 +1,7 @@
 -- `network::file::decoded_as` meets its contract.
 -- Assumes nothing.
 use Rattle.network.specs.Decode.{decodedAs}
-use Rattle.network.proofs.Runs.{decoded-refused}
+use Rattle.network.proofs.Layers.{decoded-refused}
 use borrow.Author.Needs.{needs}
 use Rattle.network.proofs.file.decoded_as.Statement.{statement}
 use Rattle.network.proofs.file.decoded_as.Tie as tie

@@ -6,7 +6,7 @@ use lib.ListN.{length}
 use mathlib.Core.Path.{sym, _∙_}
 use native.Mathlib.Omega.{arith}
 use Rattle.network.specs.Decode.{started}
-use Rattle.network.proofs.Runs.{start-stopped, start-started, head-there}
+use Rattle.network.proofs.Layers.{start-stopped, start-started, head-there}
 use borrow.Author.Needs.{needs}
 use Rattle.network.proofs.file.start.Statement.{statement}
 use Rattle.network.proofs.file.start.Tie as tie

@@ -2,7 +2,7 @@
 -- Assumes nothing.
 use mathlib.Core.Path.{sym, _∙_}
 use Rattle.network.proofs.Marked.{found-grown}
-use Rattle.network.proofs.Runs.{step-stopped, step-next}
+use Rattle.network.proofs.Layers.{step-stopped, step-next}
 use borrow.Author.Needs.{needs}
 use Rattle.network.proofs.file.step.Statement.{statement}
 use Rattle.network.proofs.file.step.Tie as tie

@@ -1,10 +1,8 @@
 -- `network::net::place` meets its contract: the area's start, or the place of what the layer before makes.
 -- Assumes nothing.
-use Prim.Native.Nat.{suc, _-_}
-use mathlib.Core.Path.{_≡_, ap}
-use native.Mathlib.Omega.{arith}
 use borrow.Author.Needs.{needs}
 use Rattle.network.specs.Network.{placeOf}
+use Rattle.network.proofs.Made.{made-by}
 use Rattle.network.proofs.net.place.Statement.{statement}
 use Rattle.network.proofs.net.place.Tie as tie
 
@@ -21,10 +19,7 @@ element-copy-out-l : tie.Need-element-copy-out-l
 element-copy-out-l c = search needs
 
 returns-2 : tie.Need-returns-2
-returns-2 c =
-    let a = c .before .before .args in
-    let some : suc (a .t - 1) ≡ a .t = omega arith in
-    ap (placeOf (a .t1)) some
+returns-2 c = made-by (placeOf (c .before .before .args .t1)) (c .before .before .args .t) (c .before .if1 .left)
 
 pub place-spec : {M : Type 1} → statement M
 place-spec = tie.close (tie.spec returns sub-l mul-l element-copy-out-l returns-2)

@@ -1,12 +1,12 @@
 -- `network::net::zero_point` meets its contract: the head's, or that of the layer before, by its kind.
 -- Assumes nothing.
-use Prim.Native.Nat.{ℕ, suc, _-_}
+use Prim.Native.Nat.{ℕ, _-_}
 use mathlib.Core.Path.{_≡_, sym, _∙_, ap}
-use native.Mathlib.Omega.{arith}
 use borrow.Author.Needs.{needs}
 use Rattle.records.specs.declared.layer.Kind.{Kind}
 use Rattle.network.specs.Network.{layerOf, zeroBy, zeroOf}
 use Rattle.network.specs.declared.net.Network.{Network}
+use Rattle.network.proofs.Made.{made-by}
 use Rattle.network.proofs.net.zero_point.Statement.{statement}
 use Rattle.network.proofs.net.zero_point.Tie as tie
 
@@ -16,9 +16,7 @@ zero-at :
     (t ≡ 0 → ⊥) →
     layerOf n (t - 1) .kind ≡ k →
     zeroBy k (zeroOf n (t - 1)) ≡ zeroOf n t
-zero-at n t k h e =
-    let some : suc (t - 1) ≡ t = omega arith in
-    ap (λ (x : Kind). zeroBy x (zeroOf n (t - 1))) (sym e) ∙ ap (zeroOf n) some
+zero-at n t k h e = ap (λ (x : Kind). zeroBy x (zeroOf n (t - 1))) (sym e) ∙ made-by (zeroOf n) t h
 
 returns : tie.Need-returns
 returns c = search needs

@@ -4,39 +4,18 @@ use borrow.Author.Needs.{needs}
 use Rattle.records.proofs.full.full_fields.Statement.{statement}
 use Rattle.records.proofs.full.full_fields.Tie as tie
 
-shift-fault-requires : tie.Need-shift-fault-requires
-shift-fault-requires c κs = search needs
-
-multiplier-fault-requires : tie.Need-multiplier-fault-requires
-multiplier-fault-requires c κs = search needs
-
-first-of-requires : tie.Need-first-of-requires
-first-of-requires c κs = search needs
-
 one-to-256-requires : tie.Need-one-to-256-requires
 one-to-256-requires c κs = search needs
 
-clamp-fault-requires : tie.Need-clamp-fault-requires
-clamp-fault-requires c κs = search needs
+weighing-fields-requires : tie.Need-weighing-fields-requires
+weighing-fields-requires c κs = search needs
 
-first-of-requires-2 : tie.Need-first-of-requires-2
-first-of-requires-2 c κs = search needs
-
-first-of-requires-3 : tie.Need-first-of-requires-3
-first-of-requires-3 c κs = search needs
+first-of-requires : tie.Need-first-of-requires
+first-of-requires c κs = search needs
 
 returns : tie.Need-returns
 returns c = cc
 
 pub full-fields-spec : {M : Type 1} → statement M
 full-fields-spec =
-    tie.close
-    (tie.spec
-    shift-fault-requires
-    multiplier-fault-requires
-    first-of-requires
-    one-to-256-requires
-    clamp-fault-requires
-    first-of-requires-2
-    first-of-requires-3
-    returns)
+    tie.close (tie.spec one-to-256-requires weighing-fields-requires first-of-requires returns)

@@ -1,6 +1,5 @@
 -- `records::full::full_output` meets its contract.
 -- Assumes nothing.
-use Rattle.records.specs.Full.{fullOutput}
 use borrow.Author.Needs.{needs}
 use Rattle.records.proofs.full.full_output.Statement.{statement}
 use Rattle.records.proofs.full.full_output.Tie as tie
@@ -9,7 +8,6 @@ cast-t2 : tie.Need-cast-t2
 cast-t2 c = search needs
 
 returns : tie.Need-returns
-unfolding fullOutput
 returns c = search needs
 
 pub full-output-spec : {M : Type 1} → statement M

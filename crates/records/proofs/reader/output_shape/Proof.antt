@@ -1,6 +1,6 @@
 -- `records::reader::output_shape` meets its contract.
 -- Assumes nothing.
-use Rattle.records.specs.Conv.{ConvOk}
+use Rattle.records.specs.Asked.{ConvOk}
 use Rattle.records.proofs.Ranges.{suits-fit}
 use borrow.Author.Needs.{needs}
 use Rattle.records.proofs.reader.output_shape.Statement.{statement}

@@ -6,7 +6,7 @@ use mathlib.Core.List.{List}
 use native.Mathlib.Omega.{arith}
 use native.Mathlib.Nat.{mul-le-mul-right}
 use borrow.Author.Needs.{needs}
-use Rattle.fields.specs.Shape.{SmallShape, GoodShape}
+use Rattle.fields.specs.Asked.{SmallShape, GoodShape}
 use Rattle.fields.specs.declared.shape.Shape.{Shape}
 use Rattle.network.specs.Network.{tensorOf}
 use Rattle.network.specs.Decode.{decodeOf}
@@ -18,11 +18,11 @@ use Rattle.walk.proofs.sizes.sizes_of.Statement.{statement}
 use Rattle.walk.proofs.sizes.sizes_of.Tie as tie
 
 -- a file that is not refused holds its network
-held : (file : List ℕ) (d : Decoded) → d ≡ decodeOf file → d .refusal ≡ 0 → Taken file (d .network)
+held : (file : List ℕ) (d : Decoded) → d ≡ decodeOf file → d .fault ≡ 0 → Taken file (d .network)
 held file d e z = rw e (taken file (rw e at z))
 
 -- and its last tensor has a good shape
-last-good : (file : List ℕ) (d : Decoded) (s : Shape) → d ≡ decodeOf file → d .refusal ≡ 0 → s ≡ tensorOf (d .network) (d .network .count) → GoodShape s
+last-good : (file : List ℕ) (d : Decoded) (s : Shape) → d ≡ decodeOf file → d .fault ≡ 0 → s ≡ tensorOf (d .network) (d .network .count) → GoodShape s
 last-good file d s e z is = rw is (held file d e z .shapes (d .network .count) (omega arith))
 
 -- the bytes of a row are few

@@ -7,9 +7,10 @@ use native.Mathlib.Omega.{arith}
 use borrow.Author.Needs.{needs}
 use denote.Ref.{now}
 use lib.ListN.{length}
-use Rattle.windows.specs.Lists.{pasted, joined}
-use Rattle.windows.specs.Window.{termsOf, stripOf, windowOf}
-use Rattle.windows.proofs.Pasted.{pasted-nil, joined-more, joined-done}
+use Rattle.lists.specs.Lists.{pasted, joined}
+use Rattle.windows.specs.Asked.{windowBytes}
+use Rattle.windows.specs.Window.{stripOf, windowOf}
+use Rattle.lists.proofs.Pasted.{pasted-nil, joined-more, joined-done}
 use Rattle.windows.proofs.Windows.{strip-length, row-room}
 use Rattle.windows.proofs.window.gather.Statement.{statement}
 use Rattle.windows.proofs.window.gather.Tie as tie
@@ -37,7 +38,7 @@ add-put-strip c = omega arith
 -- the row that is next has room in the patch
 room :
     (c : tie.In-loop Inv-loop μ-loop) →
-    c .before .loop .at + c .before .before .times .result ≤ termsOf (c .before .before .before .before .before .args .w)
+    c .before .loop .at + c .before .before .times .result ≤ windowBytes (c .before .before .before .before .before .args .w)
 room c =
     let l = c .before in
     let w = l .before .before .before .before .args .w in

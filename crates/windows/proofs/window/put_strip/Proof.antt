@@ -35,8 +35,8 @@ returns-2 c =
     let off = side-after (a .w .top) (a .w .rows) (a .p) (c .before .before .before .before .if2 .taken) in
     strip-filled (a .w) (now (a .t)) (now (a .patch)) (a .at) (a .p) (a .q) off (c .before .before .fill-in2 .ensures)
 
-run-of-requires : tie.Need-run-of-requires
-run-of-requires c κs = search needs
+strip-at-requires : tie.Need-strip-at-requires
+strip-at-requires c κs = search needs
 
 fill-in-requires-3 : tie.Need-fill-in-requires-3
 fill-in-requires-3 c κs = search needs
@@ -78,9 +78,9 @@ returns-3 c =
     let first = second .before .before in
     let s = first .before .before .before .before .before .before in
     let a = s .args in
-    strip-stored (a .w) (now (a .t)) (now (a .patch)) (a .at) (a .p) (a .q) (first .run-of .result)
+    strip-stored (a .w) (now (a .t)) (now (a .patch)) (a .at) (a .p) (a .q) (first .strip-at .result)
     (s .pre .0) (s .pre .1 .0 .0) (s .pre .1 .0 .1) (omega (arith, s .pre))
-    (first .before .before .if1 .left) (first .before .if2 .left) (first .run-of .ensures)
+    (first .before .before .if1 .left) (first .before .if2 .left) (first .strip-at .ensures)
     (second .fill-in3 .ensures) (third .copy-in .ensures) (c .before .before .fill-in4 .ensures)
 
 pub put-strip-spec : {M : Type 1} → statement M
@@ -94,7 +94,7 @@ put-strip-spec =
     fill-in-requires-2
     same-length-2
     returns-2
-    run-of-requires
+    strip-at-requires
     fill-in-requires-3
     sub-copy-in
     part-copy-in-start

@@ -1,0 +1,2 @@
+// Slices that are written a part at a time.
+pub mod write;

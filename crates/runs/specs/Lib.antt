@@ -1,2 +1,0 @@
--- The definitions of what load fills the sums with and of what an update recomputes.
-pub mod Run

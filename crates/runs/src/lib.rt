@@ -1,3 +1,0 @@
-// What load fills the sums with, and what an update recomputes.
-pub mod fill;
-pub mod run;

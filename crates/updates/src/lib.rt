@@ -1,0 +1,3 @@
+// What load fills the sums with, and what an update recomputes.
+pub mod fill;
+pub mod recompute;
