@@ -2,3 +2,4 @@
 pub mod Answers
 pub mod Entered
 pub mod Rooms
+pub mod Sized

@@ -1,5 +1,5 @@
--- The five calls. Each gives the outcome and every lent buffer that it may write, of the values at entry: a refusal reports count 0, hands back
--- the state that it got (load: the all-stale state), and leaves every buffer as it was.
+-- The five calls that are lent buffers. Each gives the outcome and every lent buffer that it may write, of the values at entry: a refusal
+-- reports count 0, hands back the state that it got (load: the all-stale state), and leaves every buffer as it was.
 -- Assumes nothing.
 use Prim.Native.Nat.{ℕ, zero, suc, _+_, _-_, _*_}
 use mathlib.Core.List.{List, [], _∷_}

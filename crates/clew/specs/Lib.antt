@@ -1,2 +1,3 @@
--- The definitions that the five calls' promises cite.
+-- The definitions that the calls' promises cite.
+pub mod Sizes
 pub mod Calls

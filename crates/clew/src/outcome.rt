@@ -10,6 +10,16 @@ pub struct Outcome {
     pub state: State,
 }
 
+// How large the buffers of a network are: the bytes of the picture, how many sums are stored, the bytes of the work area and those of a
+// reading. Number 0 means that the file is taken, another is a refusal, and then all are 0.
+pub struct Sizes {
+    pub number: u8,
+    pub picture: usize,
+    pub sums: usize,
+    pub area: usize,
+    pub reading: usize,
+}
+
 // A refusal, and a call that recomputes nothing.
 pub fn plain(number: u8, state: State) -> Outcome
     ensures { λ r. ⌜ r ≡ outcome number 0 state ⌝ }

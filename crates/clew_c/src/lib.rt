@@ -1,12 +1,28 @@
-// The five calls for C and Rust: `rt staticlib clew_c` builds the archive, include/clew.h declares them.
+// The calls for C and Rust: `rt staticlib clew_c` builds the archive, include/clew.h declares them.
 ghost use mathlib.Core.Path.{_≡_};
 ghost use Rattle.clew.specs.Calls.{loadOf, changeOf, replaceOf, updateOf, readOf};
-ghost use Rattle.clew_c.specs.Flat.{stateOf, told, replaceTold, updateTold, readTold};
+ghost use Rattle.clew.specs.Sizes.{sizesOf};
+ghost use Rattle.clew_c.specs.Flat.{sizesTold, stateOf, told, replaceTold, updateTold, readTold};
 
 mod flat;
 
 use flat::numbers_of;
 use flat::state_of;
+
+// Sizes: the picture's bytes, the stored sums, the area's bytes and a reading's bytes; all 0 where the file is refused.
+#[no_mangle]
+pub extern "C" fn clew_sizes(net: &[u8], sizes: &mut [u32; 4]) -> u8
+    ensures { λ r. ⌜ (r, now (sizes .exit)) ≡ sizesTold (sizesOf (now (net .entry))) ⌝ }
+{
+    let z = clew::sizes(net);
+    *sizes = [
+        z.picture as u32,
+        z.sums as u32,
+        z.area as u32,
+        z.reading as u32,
+    ];
+    z.number
+}
 
 // Load: the sums are filled, and every row is stale.
 #[no_mangle]

@@ -9,7 +9,7 @@ use borrow.Author.Tests.{leb-true, eqb-true}
 use lib.Dec.{leb, eqb}
 use Rattle.fields.specs.Faults.{unless}
 use Rattle.fields.specs.Shape.{bytesOf, sizeFault, sameShape}
-use Rattle.fields.specs.Asked.{GoodShape}
+use Rattle.fields.specs.Asked.{SmallShape, GoodShape}
 use Rattle.fields.specs.declared.shape.Shape.{Shape}
 use Rattle.fields.proofs.Tests.{cond-none, unless-none}
 
@@ -23,6 +23,10 @@ unfolding sizeFault
 size-in s total p =
     let q = cond-none (leb (bytesOf s) 16384) (unless (leb (total + bytesOf s) 65536) 3) 2 p in
     (leb-true _ _ (q .0), leb-true _ _ (unless-none (leb (total + bytesOf s) 65536) 2 (q .1)))
+
+-- the size of a tensor that the format takes can be worked out
+pub small : {s : Shape} → GoodShape s → SmallShape s
+small g = record { rows-small = omega arith; columns-small = omega arith; channels-small = omega arith }
 
 -- a shape with few bytes has few of each
 pub good-shape : (s : Shape) → 1 ≤ s .rows → 1 ≤ s .columns → 1 ≤ s .channels → s .channels ≤ 256 → bytesOf s ≤ 16384 → GoodShape s

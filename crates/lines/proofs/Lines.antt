@@ -6,7 +6,7 @@ use Prim.Native.Nat.{ℕ, zero, suc, _+_, _≤_, _<_}
 use native.Mathlib.Omega.{arith}
 use lib.ListN.{length}
 use Rattle.fields.specs.Shape.{bytesOf}
-use Rattle.fields.specs.Asked.{SmallShape, GoodShape}
+use Rattle.fields.specs.Asked.{GoodShape}
 use Rattle.records.specs.Layer.{sumsOf}
 use Rattle.fields.specs.declared.shape.Shape.{Shape}
 use Rattle.records.specs.declared.layer.Kind.{Kind}
@@ -24,10 +24,6 @@ use Rattle.lines.specs.Listing.{decimal, column, lineOf, wordOf, heading
 use Rattle.lines.proofs.Wrote.{Wrote, Front, wrote-more, front-three}
 
 -- ---- a line
-
--- its size can be worked out
-pub small : {s : Shape} → GoodShape s → SmallShape s
-small g = record { rows-small = omega arith; columns-small = omega arith; channels-small = omega arith }
 
 -- the nine texts of a line
 pub line-written :

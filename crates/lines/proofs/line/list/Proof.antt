@@ -1,4 +1,4 @@
--- `table::line::list` meets its contract.
+-- `lines::line::list` meets its contract.
 -- Assumes nothing.
 use native.Mathlib.Omega.{arith}
 use denote.Ref.{now}

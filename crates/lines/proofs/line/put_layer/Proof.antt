@@ -1,4 +1,4 @@
--- `table::line::put_layer` meets its contract.
+-- `lines::line::put_layer` meets its contract.
 -- Assumes nothing.
 use mathlib.Core.Path.{ap}
 use denote.Ref.{now}

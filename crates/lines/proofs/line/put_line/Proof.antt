@@ -1,4 +1,4 @@
--- `table::line::put_line` meets its contract.
+-- `lines::line::put_line` meets its contract.
 -- Assumes nothing.
 use mathlib.Core.Path.{_≡_}
 use Prim.Native.Nat.{_+_, _≤_}
@@ -6,7 +6,8 @@ use native.Mathlib.Omega.{arith}
 use lib.ListN.{length}
 use denote.Ref.{now}
 use borrow.Author.Needs.{needs}
-use Rattle.lines.proofs.Lines.{small, line-written}
+use Rattle.fields.proofs.Shapes.{small}
+use Rattle.lines.proofs.Lines.{line-written}
 use Rattle.lines.proofs.line.put_line.Statement.{statement}
 use Rattle.lines.proofs.line.put_line.Tie as tie
 

@@ -1,4 +1,4 @@
--- `table::line::put_table` meets its contract. The loop's invariant: the lines of the first m layers stand after the picture's.
+-- `lines::line::put_table` meets its contract. The loop's invariant: the lines of the first m layers stand after the picture's.
 -- The measure is how many layers are left.
 -- Assumes nothing.
 use mathlib.Core.Path.{_≡_, refl}

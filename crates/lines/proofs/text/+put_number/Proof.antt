@@ -1,4 +1,4 @@
--- `table::text::put_number` meets its contract. The measure is how many digits there may be.
+-- `lines::text::put_number` meets its contract. The measure is how many digits there may be.
 -- Assumes nothing.
 use Prim.Native.Nat.{ℕ, _<_}
 use native.Mathlib.Omega.{arith}

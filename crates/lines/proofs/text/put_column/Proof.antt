@@ -1,4 +1,4 @@
--- `table::text::put_column` meets its contract.
+-- `lines::text::put_column` meets its contract.
 -- Assumes nothing.
 use mathlib.Core.Path.{_∙_}
 use mathlib.Core.List.{[], _∷_}
