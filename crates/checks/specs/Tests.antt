@@ -34,15 +34,12 @@ unfoldable pub loadFault : List ℕ → ℕ → ℕ → ℕ
 loadFault file sums area = firstFault (decodeOf file .fault ∷ roomFault (decodeOf file .network) sums area ∷ [])
 
 -- the others test 1 to 6, in this order
-abbrev pub callTests : List ℕ → List ℕ → ℕ → State → List ℕ
-callTests file sums area s =
+unfoldable pub callFault : List ℕ → List ℕ → ℕ → State → ℕ
+callFault file sums area s = firstFault (
     decodeOf file .fault ∷
     roomFault (decodeOf file .network) (length sums) area ∷
     stateFault s (tensorsOf (decodeOf file .network)) ∷
-    sumsFault (decodeOf file .network) sums ∷ []
-
-unfoldable pub callFault : List ℕ → List ℕ → ℕ → State → ℕ
-callFault file sums area s = firstFault (callTests file sums area s)
+    sumsFault (decodeOf file .network) sums ∷ [])
 
 -- test 7 of change rows: no rows, or rows beyond the picture, or rows of the wrong length
 unfoldable pub rowsFault : Network → ℕ → ℕ → ℕ → ℕ

@@ -1,6 +1,6 @@
 -- Demand 1: a refused call changes nothing, the tests decide in the table's order, and each gives its own number.
 -- Assumes nothing.
-use Prim.Native.Nat.{ℕ, zero, suc, _-_, _≤_}
+use Prim.Native.Nat.{ℕ, zero, suc, _+_, _-_, _≤_}
 use mathlib.Core.Path.{_≡_, refl, sym, _∙_, ap}
 use mathlib.Core.Logic.{_≢_, _⊎_, inl, inr}
 use mathlib.Core.Bool.{Bool, true, false}
@@ -8,18 +8,24 @@ use mathlib.Core.List.{List}
 use native.Mathlib.Omega.{arith}
 use lib.ListN.{length}
 use Rattle.fields.specs.Faults.{unless, first}
-use Rattle.fields.proofs.Tests.{first-assoc}
+use Rattle.fields.proofs.Tests.{first-assoc, first-both, first-none}
+use Rattle.records.specs.Layer.{recordLen}
+use Rattle.records.specs.Reader.{layerWith, answer, numberOf, readAs}
 use Rattle.network.specs.Network.{layerOf}
 use Rattle.network.specs.Decode.{decodeOf}
 use Rattle.network.specs.Replace.{replaceFault}
 use Rattle.network.specs.declared.net.Network.{Network}
 use Rattle.bands.specs.State.{allStale, stateFault}
 use Rattle.bands.specs.declared.state.State.{State}
+use Rattle.bands.proofs.States.{stale-refused}
+use Rattle.checks.specs.Tensors.{tensorsOf}
 use Rattle.checks.specs.Tests.{roomFault, sumsFault, loadFault, callFault, rowsFault, layerFault, sliceFault, staleFault}
-use Rattle.checks.proofs.Passed.{call-is}
+use Rattle.checks.proofs.Passed.{call-is, call-passed}
+use Rattle.clew.specs.Sizes.{sizesBy, sizesOf}
 use Rattle.clew.specs.Calls.{outcome, loadBy, loadOf, changeBy, changeOf, replaceBy, replaceOf, updateBy, updateOf, readBy, readOf}
 use Rattle.clew.specs.declared.outcome.Outcome.{Outcome}
-use Rattle.facts.specs.Demand1.{RefusalsChangeNothing, TestsInOrder, Gives, OwnNumbers, Numbers}
+use Rattle.clew.specs.declared.outcome.Sizes.{Sizes}
+use Rattle.facts.specs.Demand1.{RefusalsChangeNothing, TestsInOrder, RecordsInOrder, AllStaleRefused, Gives, OwnNumbers, Numbers}
 use Rattle.facts.proofs.Numbered.{first-most, file-most}
 
 -- ---- the answer x of a call to the fault k: its number is k, and where that is not 0 it is the refusal with that number
@@ -82,8 +88,15 @@ module _ (file sums area : List ℕ) (s : State) where
   unfolding readOf
   read-answered out = answered (λ k. readBy k n area s out) refl (λ k. refl) (λ k. refl) _
 
+-- and the sizes
+sizes-answered : (file : List ℕ)
+    → Answered (λ (y : Sizes). y .number) (λ j. record { number = j; picture = 0; sums = 0; area = 0; reading = 0 }) (sizesOf file) (decodeOf file .fault)
+unfolding sizesOf
+sizes-answered file = answered (λ k. sizesBy k (decodeOf file .network)) refl (λ k. refl) (λ k. refl) _
+
 pub refusals-change-nothing : RefusalsChangeNothing
 refusals-change-nothing = record {
+  sizes = λ file. sizes-answered file .refusal-is;
   load = λ file sums area. load-answered file sums area .refusal-is;
   change = λ file sums area s first count rows. change-answered file sums area s first count rows .refusal-is;
   replace = λ file sums area s k r. replace-answered file sums area s k r .refusal-is;
@@ -100,11 +113,37 @@ in-order a b c d e = simp first-assoc
 pub tests-in-order : TestsInOrder
 unfolding loadFault callFault
 tests-in-order = record {
+  sizes = λ file. sizes-answered file .number-is;
   load = λ file sums area. load-answered file sums area .number-is;
   change = λ file sums area s first count rows. change-answered file sums area s first count rows .number-is ∙ in-order _ _ _ _ _;
   replace = λ file sums area s k r. replace-answered file sums area s k r .number-is ∙ in-order _ _ _ _ _;
   update = λ file sums area s. update-answered file sums area s .number-is;
   read = λ file sums area s out. read-answered file sums area s out .number-is ∙ in-order _ _ _ _ _;
+}
+
+-- the number of one record
+pub records-in-order : RecordsInOrder
+unfolding readAs answer
+records-in-order m k s at b other = numbered _
+  where
+    numbered : (fault : ℕ) → numberOf (answer fault (layerWith m k at b) (at + recordLen (layerWith m k at b))) ≡ fault
+    numbered zero = refl
+    numbered (suc fault) = refl
+
+-- ---- the all-stale state
+
+-- tests 1 to 6 find a fault, and so does whatever is tested after them
+stale-fault : (file sums : List ℕ) (area after : ℕ) → first (callFault file sums area allStale) after ≢ 0
+stale-fault file sums area after h =
+    let p = call-passed file sums area allStale (first-both _ _ h .0) in
+    absurd (omega (arith, p .state, stale-refused (tensorsOf (decodeOf file .network))))
+
+pub all-stale-refused : AllStaleRefused
+all-stale-refused = record {
+  change = λ file sums area f c rows h. stale-fault file sums (length area) _ (sym (change-answered file sums area allStale f c rows .number-is) ∙ h);
+  replace = λ file sums area k r h. stale-fault file sums (length area) _ (sym (replace-answered file sums area allStale k r .number-is) ∙ h);
+  update = λ file sums area h. stale-fault file sums (length area) 0 (first-none _ 0 (sym (update-answered file sums area allStale .number-is) ∙ h));
+  read = λ file sums area out h. stale-fault file sums (length area) _ (sym (read-answered file sums area allStale out .number-is) ∙ h);
 }
 
 -- ---- the numbers
@@ -156,6 +195,7 @@ call-most file sums area s top h =
 
 pub numbers : Numbers
 numbers = record {
+  sizes = λ file. rw (sizes-answered file .number-is) (file-most file);
   load = λ file sums area. rw (load-answered file sums area .number-is) (load-most file (length sums) (length area));
   change = λ file sums area s f c rows.
       rw (change-answered file sums area s f c rows .number-is)

@@ -1,18 +1,25 @@
--- Demand 3, as statements. Their proofs stand in proofs/Demand3.antt, proofs/Exact.antt and proofs/Clean.antt.
+-- Demand 3, as statements. Their proofs stand in proofs/Demand3.antt, proofs/Exact.antt, proofs/Clean.antt and proofs/Reach.antt.
 -- Assumes nothing.
-use Prim.Native.Nat.{ℕ, suc, _≤_, _<_}
+use Prim.Native.Nat.{ℕ, suc, _+_, _*_, _≤_, _<_}
 use mathlib.Core.Path.{_≡_}
+use mathlib.Core.Logic.{_⊎_}
 use mathlib.Core.Bool.{true}
 use mathlib.Core.List.{List}
 use lib.ListN.{length, drop}
-use Rattle.network.specs.Network.{tensorOf}
+use Rattle.records.specs.Layer.{otherOf}
+use Rattle.records.specs.declared.layer.Kind.{Kind}
+use Rattle.records.specs.declared.layer.Kind.the-variants.{Conv, Full, Add}
+use Rattle.network.specs.Network.{layerOf, tensorOf}
 use Rattle.network.specs.Decode.{decodeOf}
 use Rattle.network.specs.declared.net.Network.{Network}
 use Rattle.lists.specs.Lists.{part}
 use Rattle.fields.specs.Shape.{bytesOf}
 use Rattle.bands.specs.Band.{In}
-use Rattle.bands.specs.State.{allEmpty, clean}
+use Rattle.bands.specs.State.{bandOf, allEmpty, clean}
+use Rattle.bands.specs.Reach.{reachedBand}
+use Rattle.bands.specs.declared.band.Band.{Band}
 use Rattle.bands.specs.declared.state.State.{State}
+use Rattle.checks.specs.Tensors.{linkOf}
 use Rattle.checks.specs.Tests.{callFault}
 use Rattle.updates.specs.Recompute.{networkSums, tensorIn, rowIn, rowFrom, grownBandOf, countTo}
 use Rattle.clew.specs.Calls.{outcome, loadOf, updateOf}
@@ -66,3 +73,39 @@ ExactUpdates = (file sums area : List ℕ) (s : State) → updateOf file sums ar
 abbrev pub CleanUpdates : Type 0
 CleanUpdates = (file sums area : List ℕ) (s : State) → updateOf file sums area s .0 .number ≡ 0 → clean s ≡ true
     → updateOf file sums area s ≡ (outcome 0 0 allEmpty, area)
+
+-- row i of a layer is reached by a band of an input, in document 01's words for its kind
+abbrev pub Reaches : Kind → Band → ℕ → Type 0
+-- a convolution row i if some row from i × stride − p to i × stride − p + kernel rows − 1 is in the band
+Reaches (Conv c) b i =
+    (r : ℕ) × In r b × (i * c .frame .stride ≤ r + c .frame .padding) × (r + c .frame .padding < i * c .frame .stride + c .frame .height)
+-- a full layer if the input's band is not empty
+Reaches (Full f) b i = (r : ℕ) × In r b
+-- an add row if row i is in the band
+Reaches (Add a) b i = In i b
+
+-- the reached rows of a layer are exactly these
+abbrev pub ExactReach : Type 0
+ExactReach = (file : List ℕ) → decodeOf file .fault ≡ 0 → (m : ℕ) → m < decodeOf file .network .count
+    → (b : Band) → b .end ≤ tensorOf (decodeOf file .network) m .rows → (i : ℕ)
+    → (In i (reachedBand b (linkOf (decodeOf file .network) m))
+    → (i < tensorOf (decodeOf file .network) (suc m) .rows) × Reaches (layerOf (decodeOf file .network) m .kind) b i)
+    × ((i < tensorOf (decodeOf file .network) (suc m) .rows) × Reaches (layerOf (decodeOf file .network) m .kind) b i
+    → In i (reachedBand b (linkOf (decodeOf file .network) m)))
+
+-- row i of layer m must be worked again: it is in the layer's own band, or the grown band of an input reaches it
+abbrev pub Must : Network → State → ℕ → ℕ → Type 0
+Must n s m i = (i < tensorOf n (suc m) .rows)
+    × (In i (bandOf s (suc m))
+    ⊎ (Reaches (layerOf n m .kind) (grownBandOf n s m) i ⊎ Reaches (layerOf n m .kind) (grownBandOf n s (otherOf (layerOf n m .kind) m)) i))
+
+-- row i is one of P, or lies between two of them
+abbrev pub Between : (ℕ → Type 0) → ℕ → Type 0
+Between P i = ((a : ℕ) × (a ≤ i) × P a) × ((z : ℕ) × (i ≤ z) × P z)
+
+-- a row is recomputed exactly where it must, or where it lies between two rows that must: the band is the smallest that covers them
+abbrev pub OnlyWhereItMust : Type 0
+OnlyWhereItMust = (file sums area : List ℕ) (s : State) → length (s .bands) ≡ 17 → updateOf file sums area s .0 .number ≡ 0
+    → (m i : ℕ) → m < decodeOf file .network .count
+    → (In i (grownBandOf (decodeOf file .network) s (suc m)) → Between (Must (decodeOf file .network) s m) i)
+    × (Between (Must (decodeOf file .network) s m) i → In i (grownBandOf (decodeOf file .network) s (suc m)))

@@ -18,9 +18,10 @@ use Rattle.layers.specs.Outputs.{totalAt}
 use Rattle.layers.specs.Conv.{windowFor, convOutputs}
 use Rattle.layers.specs.Add.{addByte}
 use Rattle.bands.specs.Band.{band, none}
-use Rattle.bands.specs.State.{allEmpty}
+use Rattle.bands.specs.State.{allStale, allEmpty}
 use Rattle.bands.specs.declared.state.State.{State}
 use Rattle.clew.specs.Calls.{outcome, loadOf, changeOf, updateOf}
+use Rattle.clew.specs.declared.outcome.Outcome.{Outcome}
 
 -- the 39 bytes of network K, with its padding, its bias and its weights
 abbrev pub netWith : ℕ → List ℕ → List ℕ → List ℕ
@@ -59,6 +60,10 @@ sampleAdd = record {
   third = record { multiplier = 2 ^ 30; shift = 18 };
 }
 
+-- a load of a file, with room for one sum and 18 bytes
+abbrev pub loadWith : List ℕ → Outcome × List ℕ
+loadWith file = loadOf file (0 ∷ []) (replicate 18 0)
+
 pub record Table : Type 0 where
   -- K has sum 9
   pub P1 : loadOf K (0 ∷ []) (pictureWith 20 0 0 0) ≡ (outcome 0 0 (bandsOf 0 3 0 3), 9 ∷ [])
@@ -86,8 +91,8 @@ pub record Table : Type 0 where
   -- 16,384 terms, q and w all 255, Z and V 0, bias 2^30: total 2,139,111,424
   pub P10 : totalOf (pos (2 ^ 30)) (replicate 16384 255) (replicate 16384 255) (sum (replicate 16384 255)) 0 0 ≡ pos 2139111424
   -- bias 2^30 + 1: refused with 2
-  pub P11 : decodeOf (netWith 1 (1 ∷ 0 ∷ 0 ∷ 0x40 ∷ []) (replicate 9 1)) .fault ≡ 2
+  pub P11 : loadWith (netWith 1 (1 ∷ 0 ∷ 0 ∷ 0x40 ∷ []) (replicate 9 1)) ≡ (outcome 2 0 allStale, 0 ∷ [])
   -- K less its last byte: 1. With padding 2 it is taken; padding 3: 2
-  pub P12 : (decodeOf (take 38 K) .fault ≡ 1)
-      × (decodeOf (netWith 2 (0 ∷ 0 ∷ 0 ∷ 0 ∷ []) (replicate 9 1)) .fault ≡ 0)
-      × (decodeOf (netWith 3 (0 ∷ 0 ∷ 0 ∷ 0 ∷ []) (replicate 9 1)) .fault ≡ 2)
+  pub P12 : (loadWith (take 38 K) ≡ (outcome 1 0 allStale, 0 ∷ []))
+      × (loadWith (netWith 2 (0 ∷ 0 ∷ 0 ∷ 0 ∷ []) (replicate 9 1)) ≡ (outcome 0 0 (bandsOf 0 3 0 5), 9 ∷ []))
+      × (loadWith (netWith 3 (0 ∷ 0 ∷ 0 ∷ 0 ∷ []) (replicate 9 1)) ≡ (outcome 2 0 allStale, 0 ∷ []))

@@ -1,1 +1,1 @@
-// No code: what is proved of the five calls' definitions stands in specs/ as statements and in proofs/ with its proofs.
+// No code: what is proved of the calls' definitions stands in specs/ as statements and in proofs/ with its proofs.

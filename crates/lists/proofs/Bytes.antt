@@ -3,9 +3,9 @@
 use mathlib.Core.List.{List, [], _∷_, _++_}
 use Prim.Native.Nat.{ℕ, zero, suc, _+_, _≤_, _<_}
 use native.Mathlib.Omega.{arith}
-use lib.ListN.{take, drop, getD, replicate}
+use lib.ListN.{length, take, drop, getD, replicate}
 use lib.Seq.{getD-drop}
-use Rattle.lists.specs.Lists.{joined}
+use Rattle.lists.specs.Lists.{pasted, joined}
 
 abbrev pub Bytes : List ℕ → Type 0
 Bytes l = (i : ℕ) → getD l i 0 ≤ 255
@@ -42,3 +42,13 @@ pub bytes-joined : (n : ℕ) (f : ℕ → List ℕ) → ((i : ℕ) → i < n →
 unfolding joined
 bytes-joined zero f h = bytes-nil
 bytes-joined (suc n) f h = bytes-append (joined n f) (f n) (bytes-joined n f (λ i k. h i (omega arith))) (h n (omega arith))
+
+-- parts of one byte
+pub bytes-ones : (n : ℕ) (v : ℕ → ℕ) → ((i : ℕ) → i < n → v i ≤ 255) → Bytes (joined n (λ i. v i ∷ []))
+bytes-ones n v h = bytes-joined n _ (λ i k. bytes-replicate 1 (v i) (h i k))
+
+-- a list with a part pasted in
+pub bytes-pasted : (d : List ℕ) (at : ℕ) (s : List ℕ) → Bytes d → Bytes s → Bytes (pasted d at s)
+unfolding pasted
+bytes-pasted d at s h g =
+    bytes-append (take at d ++ s) (drop (at + length s) d) (bytes-append (take at d) s (bytes-take at d h) g) (bytes-drop (at + length s) d h)

@@ -57,6 +57,12 @@ zero-by (Conv c) z h = h .1
 zero-by (Full f) z h = h .1
 zero-by (Add a) z h = h
 
+-- a clamp whose high end is a byte
+abbrev pub ByteHighs : Kind → Type 0
+ByteHighs (Conv c) = c .weighing .high ≤ 255
+ByteHighs (Full f) = f .weighing .high ≤ 255
+ByteHighs (Add a) = a .high ≤ 255
+
 -- a file of bytes has them
 module _ (s : List ℕ) (bytes : (i : ℕ) → getD s i 0 ≤ 255) where
   weighing-zeros : (from multiplier : ℕ) → WeighingZeros (weighingAt s from multiplier)
@@ -76,3 +82,14 @@ module _ (s : List ℕ) (bytes : (i : ℕ) → getD s i 0 ≤ 255) where
   pub zeros-few : (n : Network) → Taken s n → (u : ℕ) → u ≤ n .count → zeroOf n u ≤ 255
   zeros-few n t zero h = omega (arith, t .zero-is, bytes 7)
   zeros-few n t (suc m) h = zero-by (layerOf n m .kind) (zeroOf n m) (kind-zeros n t m h)
+
+  byte-highs : (m : Mark) (at : ℕ) → ByteHighs (kindAt m s at)
+  byte-highs CV at = bytes (at + 7 + 3)
+  byte-highs FU at = bytes (at + 4 + 3)
+  byte-highs AD at = bytes (at + 5)
+  byte-highs Other at = omega arith
+
+  -- the high end of every layer's clamp is a byte
+  pub kind-highs : (n : Network) → Taken s n → (m : ℕ) → m < n .count → ByteHighs (layerOf n m .kind)
+  kind-highs n t m h =
+      subst⁻¹ ByteHighs (t .layers m h .kind .read) (byte-highs (layerOf n m .mark) (layerOf n m .start))

@@ -1,5 +1,6 @@
 -- Laws that belong to no one function, and the examples.
 pub mod Bounds
+pub mod Ends
 pub mod Examples
 pub mod Growth
 pub mod Made

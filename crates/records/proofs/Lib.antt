@@ -1,5 +1,4 @@
--- Laws that belong to no one function, and the examples.
+-- Laws that belong to no one function.
 pub mod Frames
 pub mod Ranges
 pub mod Answers
-pub mod Examples

@@ -5,19 +5,21 @@ use mathlib.Core.Path.{_≡_}
 use mathlib.Core.List.{List}
 use native.Mathlib.Omega.{arith}
 use borrow.Author.Tests.{leb-true}
+use Rattle.fields.specs.Faults.{shiftFault, multiplierFault}
 use Rattle.fields.specs.Shape.{bytesOf}
 use Rattle.fields.specs.Asked.{GoodShape}
 use Rattle.fields.specs.declared.shape.Shape.{Shape}
 use Rattle.fields.proofs.Tests.{first-both, unless-none, and-both, within-in, clamp-in}
 use Rattle.fields.proofs.Shapes.{good-shape, same-equal}
 use Rattle.records.specs.Mark.{fixedLen}
-use Rattle.records.specs.Asked.{WeighingOk, ConvOk, FullOk, AddOk, KindOk, KindFits}
+use Rattle.records.specs.Asked.{ScaleOk, WeighingOk, ConvOk, FullOk, AddOk, KindOk, KindFits}
 use Rattle.records.specs.Weighing.{weighingFields}
 use Rattle.records.specs.Conv.{convAt, convFields}
 use Rattle.records.specs.Full.{fullAt, fullFields}
 use Rattle.records.specs.Add.{addAt, addFields}
 use Rattle.records.specs.Layer.{sumsOf, outputShape}
 use Rattle.records.specs.Reader.{kindAt, ownFault, suitFault}
+use Rattle.records.specs.declared.layer.Scale.{Scale}
 use Rattle.records.specs.declared.weighing.Weighing.{Weighing}
 use Rattle.records.specs.declared.conv.Conv.{Conv as ConvParams}
 use Rattle.records.specs.declared.full.Full.{Full as FullParams}
@@ -29,14 +31,19 @@ use Rattle.records.specs.declared.mark.Mark.the-variants.{CV, FU, AD, Ot
 use Rattle.records.specs.declared.reader.Before.{Before}
 use Rattle.records.proofs.Frames.{frame-ok, frame-fits, frame-good}
 
+-- a shift and a multiplier in their ranges
+scale-ok : (s : Scale) → shiftFault (s .shift) ≡ 0 → multiplierFault (s .multiplier) ≡ 0 → ScaleOk s
+scale-ok s p q =
+    let m = within-in 1073741824 2147483647 (s .multiplier) q in
+    record { shift-few = within-in 0 31 (s .shift) p .1; multiplier-some = m .0; multiplier-few = m .1 }
+
 weighing-ok : (w : Weighing) → weighingFields w ≡ 0 → WeighingOk w
 weighing-ok w p =
     let a = first-both _ _ p in
     let b = first-both _ _ (a .1) in
     record {
       clamp = clamp-in (w .low) (w .high) (a .0);
-      shift-few = within-in 0 31 (w .scale .shift) (b .0) .1;
-      multiplier-few = within-in 1073741824 2147483647 (w .scale .multiplier) (b .1) .1;
+      scale = scale-ok (w .scale) (b .0) (b .1);
     }
 
 conv-ok : (c : ConvParams) → convFields c ≡ 0 → ConvOk c
@@ -67,12 +74,9 @@ add-ok a p =
     let h = first-both _ _ (g .1) in
     record {
       clamp = clamp-in (a .low) (a .high) (b .0);
-      first-multiplier = within-in 1073741824 2147483647 (a .first .multiplier) (d .0) .1;
-      second-multiplier = within-in 1073741824 2147483647 (a .second .multiplier) (e .0) .1;
-      third-multiplier = within-in 1073741824 2147483647 (a .third .multiplier) (f .0) .1;
-      first-shift = within-in 0 31 (a .first .shift) (g .0) .1;
-      second-shift = within-in 0 31 (a .second .shift) (h .0) .1;
-      third-shift = within-in 0 31 (a .third .shift) (h .1) .1;
+      first = scale-ok (a .first) (g .0) (d .0);
+      second = scale-ok (a .second) (h .0) (e .0);
+      third = scale-ok (a .third) (h .1) (f .0);
     }
 
 -- no fault of the record's own: its parameters are in their ranges

@@ -8,6 +8,7 @@ use Rattle.records.specs.declared.weighing.Weighing.{Weighing}
 use Rattle.records.specs.declared.conv.Conv.{Conv as ConvParams}
 use Rattle.records.specs.declared.full.Full.{Full as FullParams}
 use Rattle.records.specs.declared.add.Add.{Add as AddParams}
+use Rattle.records.specs.declared.layer.Scale.{Scale}
 use Rattle.records.specs.declared.layer.Kind.{Kind}
 use Rattle.records.specs.declared.layer.Kind.the-variants.{Conv, Full, Add}
 
@@ -27,10 +28,14 @@ pub record FrameFits (f : Frame) (i : Shape) : Type 0 where
   pub rows-fit : f .height ≤ i .rows + 2 * f .padding
   pub columns-fit : f .width ≤ i .columns + 2 * f .padding
 
+pub record ScaleOk (s : Scale) : Type 0 where
+  pub shift-few : s .shift ≤ 31
+  pub multiplier-some : 1073741824 ≤ s .multiplier
+  pub multiplier-few : s .multiplier ≤ 2147483647
+
 pub record WeighingOk (w : Weighing) : Type 0 where
   pub clamp : w .low ≤ w .high
-  pub shift-few : w .scale .shift ≤ 31
-  pub multiplier-few : w .scale .multiplier ≤ 2147483647
+  pub scale : ScaleOk (w .scale)
 
 pub record ConvOk (c : ConvParams) : Type 0 where
   pub filters-some : 1 ≤ c .filters
@@ -45,12 +50,9 @@ pub record FullOk (f : FullParams) : Type 0 where
 
 pub record AddOk (a : AddParams) : Type 0 where
   pub clamp : a .low ≤ a .high
-  pub first-multiplier : a .first .multiplier ≤ 2147483647
-  pub second-multiplier : a .second .multiplier ≤ 2147483647
-  pub third-multiplier : a .third .multiplier ≤ 2147483647
-  pub first-shift : a .first .shift ≤ 31
-  pub second-shift : a .second .shift ≤ 31
-  pub third-shift : a .third .shift ≤ 31
+  pub first : ScaleOk (a .first)
+  pub second : ScaleOk (a .second)
+  pub third : ScaleOk (a .third)
 
 -- parameters in their ranges
 abbrev pub KindOk : Kind → Type 0

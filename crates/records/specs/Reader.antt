@@ -57,6 +57,11 @@ unfoldable pub answer : ℕ → Layer → ℕ → Read
 answer zero layer next = Found layer next
 answer (suc fault) layer next = Refused (suc fault)
 
+-- the number that a reading of a record gives
+abbrev pub numberOf : Read → ℕ
+numberOf (Refused fault) = fault
+numberOf (Found layer next) = 0
+
 -- mark and fixed part present; its own faults; its shape, which suits and is not too big; what is stored. `other` is the shape of the other
 -- tensor that it reads
 unfoldable pub readAs : Mark → Kind → List ℕ → ℕ → Before → Shape → Read
