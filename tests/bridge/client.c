@@ -1,4 +1,4 @@
-/* The five calls on a machine that cannot link the archive: each is handed to the program SERVE, which has it. */
+/* The calls on a machine that cannot link the archive: each is handed to the program SERVE, which has it. */
 #include "clew.h"
 #include "message.h"
 
@@ -45,6 +45,9 @@ static void call(struct head *h, void *const b[], unsigned written)
 {
     pthread_mutex_lock(&turn);
     start();
+    for (int i = 0; i < BUFFERS; i++)
+        if (b[i] == NULL)
+            h->null |= 1u << i;
     if (!put(to, h, sizeof *h))
         fail("the server is gone");
     for (int i = 0; i < BUFFERS; i++)
@@ -126,4 +129,14 @@ uint8_t clew_read(const uint8_t *net, size_t net_len, const uint32_t *sums, size
     if (memcmp(same, state, sizeof same) != 0)
         fail("a reading wrote the state");
     return number;
+}
+
+uint8_t clew_sizes(const uint8_t *net, size_t net_len, uint32_t sizes[4])
+{
+    struct head h = head(SIZES, net_len, 0, 0, 0);
+    void *b[BUFFERS] = {(void *)net, NULL, NULL, NULL};
+    memcpy(h.sizes, sizes, sizeof h.sizes);
+    call(&h, b, 0);
+    memcpy(sizes, h.sizes, sizeof h.sizes);
+    return (uint8_t)h.number;
 }

@@ -5,7 +5,7 @@
 #include <stdint.h>
 #include <unistd.h>
 
-enum { LOAD, CHANGE_ROWS, REPLACE_LAYER, UPDATE, READ };
+enum { LOAD, CHANGE_ROWS, REPLACE_LAYER, UPDATE, READ, SIZES };
 
 /* The network, the sums, the area, and the call's own buffer (rows, record or reading). */
 enum { NET, SUMS, AREA, OWN, BUFFERS };
@@ -13,8 +13,10 @@ enum { NET, SUMS, AREA, OWN, BUFFERS };
 struct head {
     uint64_t call;
     uint64_t bytes[BUFFERS];
+    uint64_t null; /* a bit for each buffer that is lent as NULL: the call is to get it so */
     uint64_t first, count;
     uint32_t number, recomputed;
+    uint32_t sizes[4];
     uint16_t state[34];
     uint16_t unused[2];
 };

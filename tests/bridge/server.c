@@ -16,8 +16,10 @@ static uint8_t answer(struct head *h, void *const b[])
         return clew_replace_layer(b[NET], net, b[SUMS], sums, b[AREA], area, h->state, h->first, b[OWN], own);
     case UPDATE:
         return clew_update(b[NET], net, b[SUMS], sums, b[AREA], area, h->state, &h->recomputed);
-    default:
+    case READ:
         return clew_read(b[NET], net, b[SUMS], sums, b[AREA], area, h->state, b[OWN], own);
+    default:
+        return clew_sizes(b[NET], net, h->sizes);
     }
 }
 
@@ -28,8 +30,9 @@ int main(void)
         void *b[BUFFERS];
         int there = 1;
         for (int i = 0; i < BUFFERS; i++) {
-            b[i] = malloc(h.bytes[i] + 1);
-            there = there && b[i] != NULL && get(0, b[i], h.bytes[i]);
+            int null = h.null >> i & 1;
+            b[i] = null ? NULL : malloc(h.bytes[i] + 1);
+            there = there && (null || b[i] != NULL) && get(0, b[i], h.bytes[i]);
         }
         if (!there)
             return 1;

@@ -2,41 +2,44 @@
 
 use crate::raw::{self, State};
 use crate::refusal::Refusal;
-
-/// All tensors of a network that is taken have at most so many bytes together.
-const AREA_BYTES: usize = 65_536;
+use crate::sizes::Sizes;
 
 /// One network, its picture and everything kept between calls.
 ///
-/// Nothing but the calls changes the buffers, so each accepted reading is that of a fresh run over the present network
-/// and picture.
+/// Nothing changes the buffers but the calls, and the caller through `picture_mut` while everything is stale: so each
+/// accepted reading is that of a fresh run over the present network and picture.
 #[derive(Clone, Debug)]
 pub struct Joiner {
     network: Vec<u8>,
     sums: Vec<u32>,
     area: Vec<u8>,
     state: State,
+    sizes: Sizes,
+    /// The state that load gave: every row of every tensor is stale.
+    loaded: State,
 }
 
 impl Joiner {
     /// Takes a network file, with the picture all 0 and everything stale.
     pub fn load(network: Vec<u8>) -> Result<Joiner, Refusal> {
-        // Each stored sum has a bias of four bytes in the file, so there are never too few.
-        let mut sums = vec![0; network.len() / 4];
-        let area = vec![0; AREA_BYTES];
-        let mut state = [0; 34];
-        Refusal::check(raw::load(&network, &mut sums, &area, &mut state))?;
-        Ok(Joiner { network, sums, area, state })
+        let sizes = Sizes::of(&network)?;
+        let mut sums = vec![0; sizes.sums];
+        let area = vec![0; sizes.area];
+        let mut loaded = [0; 34];
+        Refusal::check(raw::load(&network, &mut sums, &area, &mut loaded))?;
+        Ok(Joiner { network, sums, area, state: loaded, sizes, loaded })
     }
 
-    /// The picture, to be written by row, column, channel, as long as all its rows are stale: after `load` and before
-    /// the first update. Later there is [`change_rows`](Joiner::change_rows), which marks what it writes.
+    /// The picture, to be written by row, column, channel, as long as every row of every tensor is stale: after `load`
+    /// and before the first update. Later there is [`change_rows`](Joiner::change_rows), which marks what it writes.
     pub fn picture_mut(&mut self) -> Option<&mut [u8]> {
-        let rows = u16::from_le_bytes([self.network[2], self.network[3]]);
-        let columns = u16::from_le_bytes([self.network[4], self.network[5]]);
-        let bytes = usize::from(rows) * usize::from(columns) * usize::from(self.network[6]);
-        let all_stale = self.state[..2] == [0, rows];
-        all_stale.then(|| &mut self.area[..bytes])
+        let everything_stale = self.state == self.loaded;
+        everything_stale.then(|| &mut self.area[..self.sizes.picture])
+    }
+
+    /// How many bytes the picture has.
+    pub fn picture_len(&self) -> usize {
+        self.sizes.picture
     }
 
     /// Writes picture rows `first` to `first + count − 1`.
@@ -60,6 +63,18 @@ impl Joiner {
     pub fn update(&mut self) -> Result<u32, Refusal> {
         let (number, count) = raw::update(&self.network, &self.sums, &mut self.area, &mut self.state);
         Refusal::check(number).map(|()| count)
+    }
+
+    /// The last tensor.
+    pub fn reading(&self) -> Result<Vec<u8>, Refusal> {
+        let mut out = vec![0; self.sizes.reading];
+        self.read(&mut out)?;
+        Ok(out)
+    }
+
+    /// How many bytes a reading has.
+    pub fn reading_len(&self) -> usize {
+        self.sizes.reading
     }
 
     /// Copies the last tensor to a slice of just its length.

@@ -1,4 +1,4 @@
-//! The five calls over lent slices, each giving its number: 0 is done, 1 to 9 a refusal.
+//! The calls over lent slices, each giving its number: 0 is done, 1 to 9 a refusal.
 //!
 //! The calls ask nothing of their caller but that each pointer goes with its length, and that no lent buffer overlaps
 //! another that is written. Slices and references have just that.
@@ -66,6 +66,8 @@ extern "C" {
         out: *mut u8,
         out_length: usize,
     ) -> u8;
+
+    fn clew_sizes(network: *const u8, network_length: usize, sizes: *mut [u32; 4]) -> u8;
 }
 
 /// Fills the sums, and writes the state: everything stale, or the all-stale state if it refuses.
@@ -166,4 +168,14 @@ pub fn read(network: &[u8], sums: &[u32], area: &[u8], state: &State, out: &mut 
             out.len(),
         )
     }
+}
+
+/// The number of tests 1 to 3, and the bytes of the picture, the stored sums, the bytes of the area and those of a
+/// reading; all four are 0 where it refuses.
+pub fn sizes(network: &[u8]) -> (u8, [u32; 4]) {
+    // Not 0 beforehand: a refusal has to write its 0s too.
+    let mut sizes = [u32::MAX; 4];
+    // SAFETY: as in `load`.
+    let number = unsafe { clew_sizes(network.as_ptr(), network.len(), &mut sizes) };
+    (number, sizes)
 }

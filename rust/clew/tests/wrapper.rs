@@ -3,7 +3,7 @@
 #[cfg(not(feature = "archive"))]
 mod stand_in;
 
-use clew::{raw, Joiner, Refusal};
+use clew::{raw, Joiner, Refusal, Sizes};
 
 /// Document 01's network K.
 const K: [u8; 39] = [
@@ -12,6 +12,13 @@ const K: [u8; 39] = [
     0x00, 0x00, 0x00, 0x00, // bias
     0x01, 0x01, 0x01, 0x01, 0x01, 0x01, 0x01, 0x01, 0x01, // weights
 ];
+
+/// A picture of 2 × 3 × 5 and two adds, each of the tensor before with itself: no sums.
+fn adds_alone() -> Vec<u8> {
+    let head = [0x4E, 0x48, 0x02, 0x00, 0x03, 0x00, 0x05, 0x00, 0x02, 0x00];
+    let add = |j: u8| [&[0x41, 0x44, j, 0, 0, 255][..], &[0, 0, 0, 0x40].repeat(3), &[0, 0, 18, 0]].concat();
+    [&head[..], &add(0), &add(1)].concat()
+}
 
 fn loaded() -> Joiner {
     let mut joiner = Joiner::load(K.to_vec()).expect("K is taken");
@@ -46,19 +53,78 @@ fn a_replaced_layer_is_in_the_network() {
 }
 
 #[test]
-fn the_picture_is_lent_only_while_all_of_it_is_stale() {
+fn the_picture_is_lent_after_a_load_and_before_the_first_update() {
     let mut joiner = loaded();
+    assert_eq!(joiner.change_rows(1, 1, &[31]), Ok(()));
+    assert_eq!(joiner.replace_layer(1, &K[10..]), Ok(()));
+    assert_eq!(number(joiner.reading()), 8);
+    assert_eq!(joiner.picture_mut(), Some(&mut [20, 31, 40][..]), "no update yet");
     assert_eq!(joiner.update(), Ok(3));
     assert_eq!(joiner.picture_mut(), None);
     assert_eq!(joiner.change_rows(0, 2, &[1, 2]), Ok(()));
     assert_eq!(joiner.picture_mut(), None);
     assert_eq!(joiner.change_rows(2, 1, &[3]), Ok(()));
-    assert_eq!(joiner.picture_mut(), Some(&mut [1, 2, 3][..]));
+    assert_eq!(joiner.picture_mut(), None, "the picture is stale, but not its reader");
+    assert_eq!(joiner.replace_layer(1, &K[10..]), Ok(()));
+    assert_eq!(joiner.picture_mut(), Some(&mut [1, 2, 3][..]), "everything is stale again");
+}
+
+#[test]
+fn a_picture_written_after_the_load_is_the_one_that_is_worked() {
+    let mut joiner = loaded();
+    joiner.picture_mut().expect("everything is stale").copy_from_slice(&[22, 30, 40]);
+    assert_eq!(joiner.update(), Ok(3));
+    assert_eq!(joiner.reading(), Ok(vec![16, 31, 25]));
+}
+
+#[test]
+fn lengths_and_readings_of_a_joiner() {
+    let mut joiner = loaded();
+    assert_eq!((joiner.picture_len(), joiner.reading_len()), (3, 3));
+    assert_eq!(number(joiner.reading()), 8);
+    assert_eq!(joiner.update(), Ok(3));
+    assert_eq!(joiner.reading(), Ok(vec![15, 30, 25]));
+    let mut out = [0; 3];
+    assert_eq!(joiner.read(&mut out), Ok(()));
+    assert_eq!(joiner.reading(), Ok(out.to_vec()));
+}
+
+#[test]
+fn sizes_of_networks() {
+    assert_eq!(Sizes::of(&K), Ok(Sizes { picture: 3, sums: 1, area: 6, reading: 3 }));
+    assert_eq!(Sizes::of(&adds_alone()), Ok(Sizes { picture: 30, sums: 0, area: 90, reading: 30 }));
+    assert_eq!(raw::sizes(&K), (0, [3, 1, 6, 3]));
+}
+
+#[test]
+fn sizes_of_a_refused_file_are_0() {
+    assert_eq!(raw::sizes(&[]), (1, [0; 4]));
+    assert_eq!(raw::sizes(&K[..38]), (1, [0; 4]));
+    let mut bad_bias = K;
+    bad_bias[29] = 0x7F;
+    assert_eq!(raw::sizes(&bad_bias), (2, [0; 4]));
+    let mut big_picture = K;
+    big_picture[2..6].copy_from_slice(&[0, 1, 0, 1]);
+    assert_eq!(raw::sizes(&big_picture), (3, [0; 4]));
+    assert_eq!(raw::sizes(&[0; 65_537]), (3, [0; 4]));
+    assert_eq!(number(Sizes::of(&big_picture)), 3);
+}
+
+#[test]
+fn a_joiner_of_adds_alone_has_no_sums() {
+    let mut joiner = Joiner::load(adds_alone()).expect("adds need no sums");
+    let picture: Vec<u8> = (0..30).collect();
+    joiner.picture_mut().expect("everything is stale").copy_from_slice(&picture);
+    assert_eq!(joiner.update(), Ok(60));
+    // With multipliers 2^30 and shifts 0, 0, 18 an add gives the sum of the offsets: twice, then four times the byte.
+    let fourfold: Vec<u8> = (0..30).map(|byte| 4 * byte).collect();
+    assert_eq!(joiner.reading(), Ok(fourfold));
 }
 
 #[test]
 fn refusals_of_a_joiner() {
     assert_eq!(number(Joiner::load(K[..38].to_vec())), 1);
+    assert_eq!(number(Joiner::load(vec![0; 65_537])), 3);
     let mut joiner = loaded();
     assert_eq!(number(joiner.read(&mut [0; 3])), 8);
     assert_eq!(number(joiner.read(&mut [0; 2])), 7);

@@ -16,7 +16,10 @@ pub const ALL_STALE: State = {
     state
 };
 
-/// An implementation of the five calls. Each gives its number; update gives its count too.
+/// The four sizes: bytes of the picture, stored sums, bytes of the area and of a reading.
+pub type Sizes = [u32; 4];
+
+/// An implementation of the six calls. Each gives its number; update gives its count too, and sizes the four sizes.
 pub trait Calls {
     fn name(&self) -> String;
 
@@ -46,6 +49,8 @@ pub trait Calls {
     fn update(&self, network: &[u8], sums: &[u32], area: &mut [u8], state: &mut State) -> (u8, u32);
 
     fn read(&self, network: &[u8], sums: &[u32], area: &[u8], state: &State, out: &mut [u8]) -> u8;
+
+    fn sizes(&self, network: &[u8]) -> (u8, Sizes);
 }
 
 /// A call without its buffers: those are in [`Lent`](crate::lent::Lent), rows, record and reading slice too.
@@ -56,9 +61,10 @@ pub enum Call {
     ReplaceLayer { layer: usize },
     Update,
     Read,
+    Sizes,
 }
 
-pub const CALL_NAMES: [&str; 5] = ["load", "change_rows", "replace_layer", "update", "read"];
+pub const CALL_NAMES: [&str; 6] = ["load", "change_rows", "replace_layer", "update", "read", "sizes"];
 
 impl Call {
     /// Which of [`CALL_NAMES`] it is.
@@ -69,6 +75,7 @@ impl Call {
             Call::ReplaceLayer { .. } => 2,
             Call::Update => 3,
             Call::Read => 4,
+            Call::Sizes => 5,
         }
     }
 
@@ -77,13 +84,15 @@ impl Call {
     }
 }
 
-/// The numbers that each of [`CALL_NAMES`] may give: load tests 1 to 4, the others 1 to 6 and then their own.
-pub const MAY_GIVE: [&[u8]; 5] = [
+/// The numbers that each of [`CALL_NAMES`] may give: sizes tests 1 to 3, load 1 to 4, the others 1 to 6 and then their
+/// own.
+pub const MAY_GIVE: [&[u8]; 6] = [
     &[0, 1, 2, 3, 4],
     &[0, 1, 2, 3, 4, 5, 6, 7],
     &[0, 1, 2, 3, 4, 5, 6, 7, 9],
     &[0, 1, 2, 3, 4, 5, 6],
     &[0, 1, 2, 3, 4, 5, 6, 7, 8],
+    &[0, 1, 2, 3],
 ];
 
 impl fmt::Display for Call {
@@ -96,14 +105,28 @@ impl fmt::Display for Call {
     }
 }
 
-#[derive(Clone, Copy, Debug, PartialEq, Eq)]
+/// What a call answers besides what it writes: calls that have no count or sizes have 0s there.
+#[derive(Clone, Copy, Debug, Default, PartialEq, Eq)]
 pub struct Answer {
     pub number: u8,
     pub count: u32,
+    pub sizes: Sizes,
 }
 
 impl Answer {
     pub fn accepted(self) -> bool {
         self.number == 0
+    }
+}
+
+impl From<u8> for Answer {
+    fn from(number: u8) -> Answer {
+        Answer { number, ..Answer::default() }
+    }
+}
+
+impl fmt::Display for Answer {
+    fn fmt(&self, f: &mut fmt::Formatter<'_>) -> fmt::Result {
+        write!(f, "number {} count {} sizes {:?}", self.number, self.count, self.sizes)
     }
 }

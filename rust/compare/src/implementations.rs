@@ -1,6 +1,6 @@
 //! The second implementation and the archive, as `Calls`.
 
-use crate::calls::{Calls, State};
+use crate::calls::{Calls, Sizes, State};
 use second::{state_from_numbers, state_to_numbers, Outcome};
 
 /// The second implementation.
@@ -62,6 +62,11 @@ impl Calls for Second {
         assert_eq!(handed_back, *state, "a reading leaves the state");
         number
     }
+
+    fn sizes(&self, network: &[u8]) -> (u8, Sizes) {
+        let sizes = second::sizes(network);
+        (sizes.number, sizes.to_numbers())
+    }
 }
 
 /// The archive, through the wrapper's raw calls.
@@ -109,5 +114,9 @@ impl Calls for Archive {
 
     fn read(&self, network: &[u8], sums: &[u32], area: &[u8], state: &State, out: &mut [u8]) -> u8 {
         clew::raw::read(network, sums, area, state, out)
+    }
+
+    fn sizes(&self, network: &[u8]) -> (u8, Sizes) {
+        clew::raw::sizes(network)
     }
 }

@@ -63,23 +63,24 @@ impl Lent {
     /// Makes the call on one implementation.
     pub fn make(&mut self, calls: &dyn Calls, call: Call) -> Answer {
         let Lent { network, sums, area, slice, state } = self;
-        let mut count = 0;
-        let number = match call {
-            Call::Load => calls.load(network.get(), sums.get_mut(), area.get(), state),
+        match call {
+            Call::Load => calls.load(network.get(), sums.get_mut(), area.get(), state).into(),
             Call::ChangeRows { first, count } => {
-                calls.change_rows(network.get(), sums.get(), area.get_mut(), state, first, count, slice.get())
+                calls.change_rows(network.get(), sums.get(), area.get_mut(), state, first, count, slice.get()).into()
             }
             Call::ReplaceLayer { layer } => {
-                calls.replace_layer(network.get_mut(), sums.get_mut(), area.get(), state, layer, slice.get())
+                calls.replace_layer(network.get_mut(), sums.get_mut(), area.get(), state, layer, slice.get()).into()
             }
             Call::Update => {
-                let (number, updated) = calls.update(network.get(), sums.get(), area.get_mut(), state);
-                count = updated;
-                number
+                let (number, count) = calls.update(network.get(), sums.get(), area.get_mut(), state);
+                Answer { number, count, ..Answer::default() }
             }
-            Call::Read => calls.read(network.get(), sums.get(), area.get(), state, slice.get_mut()),
-        };
-        Answer { number, count }
+            Call::Read => calls.read(network.get(), sums.get(), area.get(), state, slice.get_mut()).into(),
+            Call::Sizes => {
+                let (number, sizes) = calls.sizes(network.get());
+                Answer { number, sizes, ..Answer::default() }
+            }
+        }
     }
 
     /// Where two sets of buffers differ, in words.

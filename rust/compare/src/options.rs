@@ -6,10 +6,10 @@ use compare::run::Until;
 
 pub const USAGE: &str = "\
 usage: compare [--seed S] [--calls N] [--seconds T] [--case C] [--trace] [--itself | --self-test]
-  --seed S      the seed of all inputs (1)
+  --seed S      the seed of all inputs; without it seed 1, then a fresh one that is told, with a fifth of the calls
   --calls N     how many calls at least (100000)
   --seconds T   stop after so many seconds, if there are not calls enough before
-  --case C      run only this case
+  --case C      run only this case (of seed 1, if none is given)
   --trace       name each case before it is run, should an implementation not come back from it
   --itself      compare the second implementation with itself
   --self-test   compare it with wrong variants of itself, and find each of them";
@@ -24,7 +24,7 @@ pub enum Against {
 
 #[derive(Clone, Copy, Debug)]
 pub struct Options {
-    pub seed: u64,
+    pub seed: Option<u64>,
     pub until: Until,
     pub case: Option<u64>,
     pub trace: bool,
@@ -34,7 +34,7 @@ pub struct Options {
 /// The options, or what is wrong with them.
 pub fn parse(arguments: impl IntoIterator<Item = String>) -> Result<Options, String> {
     let mut options = Options {
-        seed: 1,
+        seed: None,
         until: Until { calls: 100_000, time: None },
         case: None,
         trace: false,
@@ -47,7 +47,7 @@ pub fn parse(arguments: impl IntoIterator<Item = String>) -> Result<Options, Str
             value.ok_or_else(|| format!("{argument} wants a whole number"))
         };
         match argument.as_str() {
-            "--seed" => options.seed = number()?,
+            "--seed" => options.seed = Some(number()?),
             "--calls" => options.until.calls = number()?,
             "--seconds" => options.until.time = Some(Duration::from_secs(number()?)),
             "--case" => options.case = Some(number()?),
@@ -71,14 +71,14 @@ mod tests {
     #[test]
     fn without_options_there_are_calls_enough() {
         let options = parsed("").expect("nothing is wrong");
-        assert_eq!((options.seed, options.against), (1, Against::Archive));
+        assert_eq!((options.seed, options.against), (None, Against::Archive));
         assert!(options.until.calls >= 20_000);
     }
 
     #[test]
     fn numbers_follow_their_options() {
         let options = parsed("--seed 5 --calls 6 --seconds 7 --case 8 --itself").expect("nothing is wrong");
-        assert_eq!((options.seed, options.until.calls, options.case), (5, 6, Some(8)));
+        assert_eq!((options.seed, options.until.calls, options.case), (Some(5), 6, Some(8)));
         assert_eq!(options.until.time, Some(Duration::from_secs(7)));
         assert_eq!(options.against, Against::Itself);
     }

@@ -44,8 +44,8 @@ impl<'a> Pair<'a> {
     fn tell(&self, call: Call, before: &Lent, left: (Answer, &Lent), right: (Answer, &Lent)) -> Difference {
         let mut lines = vec![
             format!("call: {call}"),
-            format!("{}: number {} count {}", self.left.name(), left.0.number, left.0.count),
-            format!("{}: number {} count {}", self.right.name(), right.0.number, right.0.count),
+            format!("{}: {}", self.left.name(), left.0),
+            format!("{}: {}", self.right.name(), right.0),
         ];
         let order = format!("{} against {}", self.left.name(), self.right.name());
         lines.extend(left.1.differences(right.1).into_iter().map(|words| format!("{order}: {words}")));
@@ -67,8 +67,8 @@ fn fault_of_both(call: Call, before: &Lent, answer: Answer, after: &Lent) -> Opt
         expected.state = ALL_STALE;
     }
     let changed = after.differences(&expected);
-    if answer.count != 0 || !changed.is_empty() {
-        return Some(format!("refused with {}, but count {} and {}", answer.number, answer.count, changed.join("; ")));
+    if answer != Answer::from(answer.number) || !changed.is_empty() {
+        return Some(format!("refused, but {answer} {}", changed.join("; ")));
     }
     None
 }

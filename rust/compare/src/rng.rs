@@ -1,5 +1,17 @@
 //! Seeded numbers, the same on every machine: splitmix64.
 
+use std::process;
+use std::time::{SystemTime, UNIX_EPOCH};
+
+/// The seed where none is given: every run of it does the same.
+pub const FIXED_SEED: u64 = 1;
+
+/// A seed of the system's, from the time and the process: short enough to be typed again.
+pub fn fresh_seed() -> u64 {
+    let time = SystemTime::now().duration_since(UNIX_EPOCH).map_or(0, |since| since.as_nanos() as u64);
+    Rng::new(time ^ u64::from(process::id()).rotate_right(16)).word() >> 32
+}
+
 pub struct Rng {
     state: u64,
 }

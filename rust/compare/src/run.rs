@@ -15,6 +15,13 @@ pub struct Until {
     pub time: Option<Duration>,
 }
 
+impl Until {
+    /// A fifth of it, for the run with a fresh seed.
+    pub fn a_fifth(self) -> Until {
+        Until { calls: self.calls / 5, time: self.time.map(|time| time / 5) }
+    }
+}
+
 /// A difference, and where it was met.
 #[derive(Clone, Debug)]
 pub struct Found {

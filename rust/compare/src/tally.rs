@@ -7,10 +7,12 @@ use crate::calls::{Answer, Call, CALL_NAMES, MAY_GIVE};
 #[derive(Clone, Debug, Default)]
 pub struct Tally {
     /// By call, then by number.
-    met: [[u64; 10]; 5],
+    met: [[u64; 10]; 6],
     pub networks: u64,
     /// Accepted readings that were compared with a fresh run.
     pub fresh_runs: u64,
+    /// Pictures that were written straight into the area after a load.
+    pub pictures_written: u64,
 }
 
 impl Tally {

@@ -3,7 +3,7 @@
 use compare::generate::network::{draw, Style, CHANNELS, DEEP, LARGE, SMALL, TALL};
 use compare::generate::{arguments, damage, records, store};
 use compare::rng::Rng;
-use second::{decode, state_from_numbers, state_is_sound, Kind, Network, ALL_EMPTY};
+use second::{decode, state_from_numbers, state_is_sound, Kind, Network, State, ALL_EMPTY};
 
 const STYLES: [Style; 5] = [SMALL, DEEP, TALL, CHANNELS, LARGE];
 
@@ -79,6 +79,31 @@ fn states_and_sums() {
         let expected = if sums.is_empty() { 0 } else { 6 };
         assert_eq!(second::update(&file, &sums, &mut area, ALL_EMPTY).number, expected);
     }
+}
+
+/// How many bands of the state test 5 refuses, each taken alone.
+fn bad_bands(network: &Network, state: &State) -> usize {
+    let alone = |tensor: usize| {
+        let mut one = ALL_EMPTY;
+        one[tensor] = state[tensor];
+        one
+    };
+    (0..state.len()).filter(|&tensor| !state_is_sound(network, &alone(tensor))).count()
+}
+
+#[test]
+fn states_with_one_bad_band_and_with_several() {
+    let mut rng = Rng::new(7);
+    let mut met = [0; 18];
+    for (_, network) in networks().iter().cycle().take(2_000) {
+        let mut state = store::sound_state(&mut rng, network);
+        store::spoil_state(&mut rng, network, &mut state);
+        met[bad_bands(network, &state_from_numbers(&state))] += 1;
+    }
+    for bad in [1, 2, 3, 4, 17] {
+        assert!(met[bad] >= 20, "{bad} bad bands: {} times", met[bad]);
+    }
+    assert!(met[0] < 200, "sound all the same: {} times", met[0]);
 }
 
 #[test]

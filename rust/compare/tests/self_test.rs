@@ -32,6 +32,7 @@ fn every_number_is_met_in_20_000_calls() {
     assert!(tally.calls() >= 20_000);
     assert!(tally.not_met().is_empty(), "not met: {:?}", tally.not_met());
     assert!(tally.fresh_runs > 1_000, "{} readings compared with a fresh run", tally.fresh_runs);
+    assert!(tally.pictures_written > 100, "{} pictures written after a load", tally.pictures_written);
 }
 
 #[test]

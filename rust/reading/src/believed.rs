@@ -73,7 +73,7 @@ fn promised(tree: &Tree, library: &Library, strays: &mut Vec<String>) -> BTreeSe
             strays.push(format!("{path}: `pub mod {}` is not followed", module.trim_end_matches(';')));
         }
         for (module, name) in code::handed_on(text) {
-            let file = format!("crates/{owner}/src/{module}.rt");
+            let file = module_file(tree, owner, module);
             match handed(tree, &file, name) {
                 Some(keys) => found.extend(keys),
                 None if library.items.contains_key(&Key::new(&file, name)) => {}
@@ -82,6 +82,16 @@ fn promised(tree: &Tree, library: &Library, strays: &mut Vec<String>) -> BTreeSe
         }
     }
     found
+}
+
+/// The file of a module that a crate hands on from: one of its own, or, where the path begins with a crate's name, of that crate.
+fn module_file(tree: &Tree, owner: &str, module: &str) -> String {
+    match module.split_once("::") {
+        Some((other, inner)) if tree.crates.iter().any(|name| name == other) => {
+            format!("crates/{other}/src/{inner}.rt")
+        }
+        _ => format!("crates/{owner}/src/{module}.rt"),
+    }
 }
 
 /// What the function of that name in a file promises, if there is one.

@@ -83,6 +83,19 @@ fn what_is_handed_out_and_not_followed_is_told() {
 }
 
 #[test]
+fn what_is_handed_on_from_another_crate_is_followed() {
+    let lib = "crates/clew/src/lib.rt";
+    let handed = "pub use calling::call;\npub use numbers::pair::";
+    let found = told_with(lib, "pub use calling::call;\n", &format!("{handed}Pair;\n")).differences;
+    assert!(found.is_empty(), "{found:?}");
+    let found = told_with(lib, "pub use calling::call;\n", &format!("{handed}Lost;\n")).differences;
+    assert_eq!(
+        found,
+        ["crates/clew/src/lib.rt: `Lost` is neither a function nor a type of crates/numbers/src/pair.rt"]
+    );
+}
+
+#[test]
 fn a_line_of_no_definition_is_told() {
     let found = told_with("crates/clew_c/specs/Flat.antt", "told n = n\n", "told n = n\n\nhidden : ℕ\n").differences;
     assert_eq!(found, ["crates/clew_c/specs/Flat.antt:4: this line belongs to no definition"]);

@@ -1,4 +1,4 @@
-//! The five calls over plain values. Buffers are changed in place, and only by a call that is taken.
+//! The five calls over lent buffers, as plain values. Buffers are changed in place, and only by a call that is taken.
 
 use crate::bands::{grown, state_is_sound, Band, State, ALL_EMPTY, ALL_STALE};
 use crate::decode::{biases_in_order, decode, fields, fixed_part, spare, Mark};

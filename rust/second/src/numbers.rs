@@ -53,15 +53,32 @@ pub fn direct_form(pairs: &[(u8, u8)], offsets: Offsets) -> i128 {
 }
 
 /// Rescaling total `a`: first a half goes up, then (if there is a shift) a half goes away from zero.
+///
+/// Two formulas, by divisions and by shifts, must agree.
 pub fn rescale(a: i128, scaling: Scaling) -> i128 {
-    let product = a * i128::from(scaling.multiplier);
-    let h = floor_of_quotient(product + (1 << 30), 1 << 31);
-    let r = match scaling.shift {
+    let r = rescale_by_division(a, scaling);
+    assert_eq!(r, rescale_by_shifts(a, scaling), "the two formulas of a rescaling differ");
+    assert_distance(r, a * i128::from(scaling.multiplier), scaling.shift);
+    r
+}
+
+/// As the document has it.
+pub fn rescale_by_division(a: i128, scaling: Scaling) -> i128 {
+    let h = floor_of_quotient(a * i128::from(scaling.multiplier) + (1 << 30), 1 << 31);
+    match scaling.shift {
         0 => h,
         n => nearest_half_away_from_zero(h, 1 << n),
-    };
-    assert_distance(r, product, scaling.shift);
-    r
+    }
+}
+
+/// By shifts alone: the bits that the second one drops are compared with a half. A shift goes down, which is away from
+/// zero for a number below it, so there a half stays.
+pub fn rescale_by_shifts(a: i128, scaling: Scaling) -> i128 {
+    let h = (a * i128::from(scaling.multiplier) + (1 << 30)) >> 31;
+    let mask = (1 << scaling.shift) - 1;
+    let dropped = h & mask;
+    let threshold = (mask >> 1) + i128::from(h < 0);
+    (h >> scaling.shift) + i128::from(dropped > threshold)
 }
 
 /// The greatest whole number not above `number` / `divisor`, for a divisor above 0. Rust's division cuts towards zero.

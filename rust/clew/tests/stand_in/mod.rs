@@ -119,3 +119,10 @@ unsafe extern "C" fn clew_read(
     );
     outcome.number
 }
+
+#[no_mangle]
+unsafe extern "C" fn clew_sizes(network: *const u8, network_length: usize, sizes: *mut [u32; 4]) -> u8 {
+    let answer = second::sizes(from_raw_parts(network, network_length));
+    *sizes = answer.to_numbers();
+    answer.number
+}

@@ -35,11 +35,13 @@ fn follow(context: &mut Context, mut lent: Lent, network: &Network) -> Result<()
 fn buffers(rng: &mut Rng, file: &[u8], network: &Network) -> Lent {
     let mut sums = sums(rng, network);
     let mut state = state(rng, network);
-    if rng.one_in(5) {
-        store::spoil_sums(rng, network, &mut sums);
-    }
-    if rng.one_in(5) {
+    let bad_state = rng.one_in(5);
+    if bad_state {
         store::spoil_state(rng, network, &mut state);
+    }
+    // Bad sums are more likely under a bad state: 5 comes before 6.
+    if rng.one_in(if bad_state { 3 } else { 5 }) {
+        store::spoil_sums(rng, network, &mut sums);
     }
     let sums_length = length(rng, network.sums_needed());
     let rest = store::any_sums(rng, sums_length.saturating_sub(sums.len()));
@@ -86,12 +88,13 @@ fn network_file(rng: &mut Rng, file: &[u8], network: &Network) -> Vec<u8> {
 
 /// Any of the calls, with its slice lent: its own argument is wrong once in a few times.
 fn arguments_of_a_call(rng: &mut Rng, lent: &mut Lent, network: &Network) -> Call {
-    match rng.below(12) {
+    match rng.below(13) {
         0 => Call::Load,
         1..=3 => change_rows(rng, lent, network),
         4..=5 => replace_layer(rng, lent, network),
         6..=8 => Call::Update,
-        _ => read(rng, lent, network),
+        9..=11 => read(rng, lent, network),
+        _ => Call::Sizes,
     }
 }
 

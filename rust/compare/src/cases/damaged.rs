@@ -33,7 +33,7 @@ impl Good {
         Good { file, network, lent }
     }
 
-    /// Load over the damaged file, and sometimes another call: all of them test the network.
+    /// Load over the damaged file, often sizes, and sometimes another call: all of them test the network.
     fn try_damaged(&self, context: &mut Context, damages: &[Damage]) -> Result<(), Difference> {
         let damaged = damage::damaged(&self.file, damages);
         try_file(context, &self.lent, &damaged)
@@ -44,6 +44,9 @@ fn try_file(context: &mut Context, good: &Lent, file: &[u8]) -> Result<(), Diffe
     let mut lent = good.clone();
     lent.network = Fenced::new(file);
     context.pair.make(&mut lent.clone(), Call::Load)?;
+    if context.rng.one_in(2) {
+        context.pair.make(&mut lent, Call::Sizes)?;
+    }
     if context.rng.one_in(4) {
         lent.slice = Fenced::new(&context.rng.bytes(4));
         let call = context.rng.pick(&[

@@ -1,10 +1,11 @@
-//! Honest histories: from an accepted load, always the latest state and the same buffers, changed by nothing else.
-//! Each accepted reading has to be the last tensor of a fresh run, and all sums the true ones.
+//! Honest histories: from an accepted load, always the latest state and the same buffers, changed by nothing else but
+//! a picture written before the first update. Each accepted reading has to be the last tensor of a fresh run, and all
+//! sums the true ones.
 
 use second::Network;
 
 use super::Context;
-use crate::calls::{Answer, Call};
+use crate::calls::{Answer, Call, Sizes, State};
 use crate::generate::damage;
 use crate::generate::network::Style;
 use crate::generate::{arguments, records, store};
@@ -26,27 +27,32 @@ pub struct History<'a, 'b, 'c> {
     lent: Lent,
     /// The present network, as the second implementation reads it.
     network: Network,
+    /// What the last load gave: every row of every tensor is stale.
+    loaded: State,
 }
 
 impl<'a, 'b, 'c> History<'a, 'b, 'c> {
-    /// Loads a network that is taken. The area has any contents: the picture is whatever stands there.
+    /// Loads a network that is taken, with buffers as large as the call sizes says, or larger. The area has any
+    /// contents: the picture is whatever stands there.
     pub fn begin(context: &'a mut Context<'b, 'c>, file: &[u8]) -> Result<History<'a, 'b, 'c>, Difference> {
         let network = second::decode(file).expect("a network that is taken");
-        let rng = &mut *context.rng;
-        let sums_length = store::enough(rng, network.sums_needed());
-        let area_length = store::enough(rng, network.area_bytes());
-        let sums = store::any_sums(rng, sums_length);
-        let area = store::area(rng, area_length);
-        let state = std::array::from_fn(|_| rng.word() as u16);
-        let mut history = History { context, lent: Lent::new(file, &sums, &area, state), network };
-        history.accepted(Call::Load)?;
+        let state = std::array::from_fn(|_| context.rng.word() as u16);
+        let mut history = History { context, lent: Lent::new(file, &[], &[], state), network, loaded: state };
+        let [_, sums, area, _] = history.sizes()?.map(|size| size as usize);
+        let sums = store::enough(history.rng(), sums);
+        let area = store::enough(history.rng(), area);
+        history.lent.sums = Fenced::new(&store::any_sums(history.rng(), sums));
+        history.lent.area = Fenced::new(&store::area(history.rng(), area));
+        history.load()?;
         Ok(history)
     }
 
     /// Some call, more often one that is taken.
     fn step(&mut self) -> Result<(), Difference> {
         match self.rng().below(100) {
-            0..=34 => self.change_rows(),
+            0..=30 => self.change_rows(),
+            31..=32 => self.sizes().map(|_| ()),
+            33..=34 => self.write_picture(),
             35..=47 => self.update(),
             48..=63 => self.update_and_read(),
             64..=69 => self.read(),
@@ -56,13 +62,45 @@ impl<'a, 'b, 'c> History<'a, 'b, 'c> {
             85..=88 => self.wrong_record(),
             89..=91 => self.wrong_slice(),
             92..=96 => self.detour(),
-            97..=98 => self.accepted(Call::Load),
+            97..=98 => self.load(),
             _ => self.refused_load(),
         }
     }
 
     fn rng(&mut self) -> &mut Rng {
         self.context.rng
+    }
+
+    /// A load, after which the caller as often as not writes the picture.
+    fn load(&mut self) -> Result<(), Difference> {
+        self.accepted(Call::Load)?;
+        self.loaded = self.lent.state;
+        if self.rng().one_in(2) {
+            return self.write_picture();
+        }
+        Ok(())
+    }
+
+    /// Reading G1: as long as every band is as load left it, the picture may be written straight into the area.
+    fn write_picture(&mut self) -> Result<(), Difference> {
+        if self.lent.state == self.loaded {
+            let bytes = self.network.picture.bytes();
+            let picture = store::area(self.rng(), bytes);
+            self.lent.area.get_mut()[..bytes].copy_from_slice(&picture);
+            self.context.pair.tally.pictures_written += 1;
+        }
+        Ok(())
+    }
+
+    /// The four sizes, which have to be just those of the network.
+    fn sizes(&mut self) -> Result<Sizes, Difference> {
+        let answer = self.context.pair.make(&mut self.lent, Call::Sizes)?;
+        let last = self.network.area_place(self.network.layers.len());
+        let expected = [self.network.picture.bytes(), self.network.true_sums().len(), last.end, last.len()];
+        if answer.number != 0 || answer.sizes.map(|size| size as usize) != expected {
+            return Err(self.wrong(Call::Sizes, &format!("{answer}, but they have to be {expected:?}")));
+        }
+        Ok(answer.sizes)
     }
 
     /// Makes a call on the history's own buffers and checks what has to hold after it.
@@ -218,7 +256,8 @@ impl<'a, 'b, 'c> History<'a, 'b, 'c> {
             1 => damage::trail(self.rng()),
             _ => damage::any_byte(self.rng(), length),
         };
-        let call = self.rng().pick(&[Call::Load, Call::Update, Call::Read, Call::ChangeRows { first: 0, count: 1 }]);
+        let change = Call::ChangeRows { first: 0, count: 1 };
+        let call = self.rng().pick(&[Call::Load, Call::Update, Call::Read, change, Call::Sizes]);
         other.network = Fenced::new(&damage::damaged(other.network.get(), &[damage]));
         self.context.pair.make(&mut other, call).map(|_| ())
     }
@@ -230,6 +269,6 @@ impl<'a, 'b, 'c> History<'a, 'b, 'c> {
         self.lent.area = area;
         let call = self.rng().pick(&[Call::Update, Call::Read, Call::ReplaceLayer { layer: 1 }]);
         self.refused(call, 5)?;
-        self.accepted(Call::Load)
+        self.load()
     }
 }

@@ -1,4 +1,4 @@
-//! Networks just at a limit and just beyond it, with the number that load has to give.
+//! Networks just at a limit and just beyond it, with the number that load and sizes have to give.
 
 use super::history::History;
 use super::Context;
@@ -11,7 +11,7 @@ use crate::rng::Rng;
 
 type Network = fn(&mut Rng) -> Vec<u8>;
 
-/// What it is, how it is written, and load's number for it.
+/// What it is, how it is written, and the number for it.
 const NETWORKS: [(&str, Network, u8); 20] = [
     ("a picture of 16,384 bytes", |r| [head(256, 64, 1, 9, 1), add(r, Plain, 0)].concat(), 0),
     ("a picture of 16,385 bytes", |r| [head(113, 145, 1, 9, 1), add(r, Plain, 0)].concat(), 3),
@@ -47,10 +47,12 @@ pub fn run(context: &mut Context) -> Result<(), Difference> {
         return history.update_and_read();
     }
     let mut lent = Lent::new(&file, &[0; 300], &[], [0; 34]);
-    let answer = context.pair.make(&mut lent, Call::Load)?;
-    if answer.number != expected {
-        let words = format!("both: load of {name}: number {}, but it has to be {expected}", answer.number);
-        return Err(Difference { words });
+    for call in [Call::Sizes, Call::Load] {
+        let answer = context.pair.make(&mut lent, call)?;
+        if answer.number != expected {
+            let words = format!("both: {call} of {name}: number {}, but it has to be {expected}", answer.number);
+            return Err(Difference { words });
+        }
     }
     Ok(())
 }

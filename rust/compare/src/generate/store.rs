@@ -90,12 +90,19 @@ fn stale_band(rng: &mut Rng, rows: usize) -> Band {
     Band { first, end }
 }
 
-/// Puts a band into a state that test 5 mostly refuses.
+/// Puts bad bands into a state: one, or several of any kinds.
 pub fn spoil_state(rng: &mut Rng, network: &Network, state: &mut State) {
     if rng.one_in(5) {
         *state = ALL_STALE;
         return;
     }
+    for _ in 0..rng.pick(&[1, 1, 2, 2, 3, 8]) {
+        spoil_band(rng, network, state);
+    }
+}
+
+/// Puts a band somewhere that test 5 mostly refuses.
+fn spoil_band(rng: &mut Rng, network: &Network, state: &mut State) {
     let tensor = if rng.one_in(3) { rng.below(17) } else { rng.below(network.tensors()) };
     let rows = if tensor < network.tensors() { network.shape(tensor).rows as u16 } else { 0 };
     let any = rng.word() as u16;

@@ -6,6 +6,11 @@ use super::{Fault, Wrong};
 
 impl Wrong {
     pub(super) fn state_is_sound(self, network: &Network, state: &State) -> bool {
+        match self.fault {
+            Some(Fault::TwoBadBandsTaken) => return matches!(bad_bands(network, state).len(), 0 | 2),
+            Some(Fault::TwoKindsOfBadBandsTaken) => return matches!(kinds(&bad_bands(network, state)).len(), 0 | 2),
+            _ => {}
+        }
         let mut state = *state;
         for (tensor, band) in state.iter_mut().enumerate() {
             let there = tensor < network.tensors();
@@ -67,4 +72,33 @@ impl Wrong {
             band
         }
     }
+}
+
+/// How a band is bad for its tensor. The all-stale state is bad in the first way alone.
+#[derive(Clone, Copy, PartialEq, Eq)]
+pub(super) enum Bad {
+    FirstAboveEnd,
+    EndAboveRows,
+    EmptyElsewhere,
+    TensorMissing,
+}
+
+/// The first way in which each bad band is bad.
+pub(super) fn bad_bands(network: &Network, state: &State) -> Vec<Bad> {
+    let bad = |(tensor, band): (usize, &Band)| {
+        let ways = [
+            (band.first > band.end, Bad::FirstAboveEnd),
+            (tensor < network.tensors() && band.end > network.shape(tensor).rows, Bad::EndAboveRows),
+            (band.first == band.end, Bad::EmptyElsewhere),
+            (tensor >= network.tensors(), Bad::TensorMissing),
+        ];
+        ways.into_iter().find(|&(met, _)| met && *band != Band::EMPTY).map(|(_, way)| way)
+    };
+    state.iter().enumerate().filter_map(bad).collect()
+}
+
+/// Each way once.
+fn kinds(bad: &[Bad]) -> Vec<Bad> {
+    let all = [Bad::FirstAboveEnd, Bad::EndAboveRows, Bad::EmptyElsewhere, Bad::TensorMissing];
+    all.into_iter().filter(|way| bad.contains(way)).collect()
 }

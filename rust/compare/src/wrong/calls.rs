@@ -4,7 +4,7 @@ use second::{state_from_numbers, state_to_numbers, Band, Network, ALL_EMPTY, ALL
 
 use super::refusals::Asked;
 use super::{Fault, Wrong};
-use crate::calls::{Calls, State};
+use crate::calls::{Calls, Sizes, State};
 
 impl Calls for Wrong {
     fn name(&self) -> String {
@@ -88,6 +88,13 @@ impl Calls for Wrong {
             out[..bytes.len()].copy_from_slice(bytes);
         });
         self.number(reading, &mut state.clone())
+    }
+
+    fn sizes(&self, file: &[u8]) -> (u8, Sizes) {
+        match self.decode_for_sizes(file) {
+            Ok(network) => (0, self.sizes_of(&network)),
+            Err(number) => (number, self.refused_sizes(file)),
+        }
     }
 }
 

@@ -73,6 +73,9 @@ pub enum Fault {
     LongerAreaRefused,
     EmptyBandAnywhere,
     MissingTensorsNotTested,
+    TwoBadBandsTaken,
+    TwoKindsOfBadBandsTaken,
+    SixBeforeTwoBadBands,
     OwnTestBeforeFive,
     CleanUpdateNotTested,
     SumsTestedByUpdateOnly,
@@ -100,6 +103,21 @@ pub enum Fault {
     KernelAgainstUnpaddedSide,
     MoreThan64ChannelsRefused,
     MoreThan256RowsRefused,
+    // Sizes.
+    SizesOfOneChannel,
+    SizesForgetSumsOfFull,
+    SizesCountASumForAnAdd,
+    SizesOfSumsInBytes,
+    SizesOfAreaWithoutPicture,
+    SizesOfReadingBeforeLast,
+    SizesOfReadingOneRow,
+    SizesIn16Bits,
+    RefusedSizesGivePicture,
+    RefusedSizesLeft,
+    SizesOfALongFile,
+    SizesOfAnyArea,
+    SizesTakeABiasOneMore,
+    SizesWithoutTrailingBytes,
 }
 
 use Fault::*;
@@ -172,6 +190,9 @@ pub const FAULTS: &[(Fault, &str)] = &[
     (LongerAreaRefused, "a longer area refused"),
     (EmptyBandAnywhere, "an empty band taken wherever it stands"),
     (MissingTensorsNotTested, "bands of tensors that the network lacks not tested"),
+    (TwoBadBandsTaken, "two bad bands taken for none"),
+    (TwoKindsOfBadBandsTaken, "bands bad in two ways taken for none"),
+    (SixBeforeTwoBadBands, "test 6 before 5 where just two bands are bad"),
     (OwnTestBeforeFive, "change rows tests 7 before 5 and 6"),
     (CleanUpdateNotTested, "an update over a clean state does not test the sums"),
     (SumsTestedByUpdateOnly, "only an update tests the sums"),
@@ -198,10 +219,24 @@ pub const FAULTS: &[(Fault, &str)] = &[
     (KernelAgainstUnpaddedSide, "kernel compared with the unpadded side"),
     (MoreThan64ChannelsRefused, "a convolution over more than 64 channels refused"),
     (MoreThan256RowsRefused, "a tensor of more than 256 rows refused"),
+    (SizesOfOneChannel, "sizes: the picture's bytes without its channels"),
+    (SizesForgetSumsOfFull, "sizes: the sums of full layers not counted"),
+    (SizesCountASumForAnAdd, "sizes: a sum counted for each add"),
+    (SizesOfSumsInBytes, "sizes: the bytes of the sums instead of their number"),
+    (SizesOfAreaWithoutPicture, "sizes: the area without the picture"),
+    (SizesOfReadingBeforeLast, "sizes: the reading's bytes of the tensor before the last"),
+    (SizesOfReadingOneRow, "sizes: the reading's bytes of one row"),
+    (SizesIn16Bits, "sizes: kept in 16 bits"),
+    (RefusedSizesGivePicture, "sizes: the picture's bytes given where the file is refused"),
+    (RefusedSizesLeft, "sizes: none written where the file is refused"),
+    (SizesOfALongFile, "sizes: file length not tested"),
+    (SizesOfAnyArea, "sizes: all tensors together not tested"),
+    (SizesTakeABiasOneMore, "sizes: biases of ±(2^30 + 1) taken"),
+    (SizesWithoutTrailingBytes, "sizes: trailing bytes taken"),
 ];
 
 /// Faults that are seen even if both implementations have them: in a reading that is not that of a fresh run, in sums
-/// that are not the true ones, or in a refusal that changes something.
+/// that are not the true ones, in sizes that are not the network's, or in a refusal that changes something.
 pub const SEEN_IN_BOTH: &[Fault] = &[
     PaddingWithZero,
     OneRounding,
@@ -225,4 +260,8 @@ pub const SEEN_IN_BOTH: &[Fault] = &[
     RefusedLoadGivesEmpty,
     RefusalGivesAllStale,
     MoreThan256RowsRefused,
+    SizesForgetSumsOfFull,
+    SizesOfReadingBeforeLast,
+    SizesIn16Bits,
+    RefusedSizesGivePicture,
 ];

@@ -13,6 +13,17 @@ impl Wrong {
         if !self.has(Fault::LengthTestedLast) {
             file_length(file)?;
         }
+        let (network, end) = self.records(file)?;
+        if network.area_bytes() > LARGEST_AREA {
+            return Err(3); // reached only with AllTensorsTestedAtEnd
+        }
+        nothing_trails(file, end)?;
+        file_length(file)?;
+        Ok(network)
+    }
+
+    /// The network, and where its last record ends.
+    pub(super) fn records(self, file: &[u8]) -> Result<(Network, usize), u8> {
         let (mut network, layers) = self.head(file)?;
         let mut at = HEAD_BYTES;
         for k in 1..=layers {
@@ -20,16 +31,11 @@ impl Wrong {
             at = layer.place.end;
             network.layers.push(layer);
         }
-        if network.area_bytes() > LARGEST_AREA {
-            return Err(3); // reached only with AllTensorsTestedAtEnd
-        }
-        nothing_trails(file, at)?;
-        file_length(file)?;
-        Ok(network)
+        Ok((network, at))
     }
 
     /// A network without layers yet, and how many it is to have.
-    fn head(self, file: &[u8]) -> Result<(Network, usize), u8> {
+    pub(super) fn head(self, file: &[u8]) -> Result<(Network, usize), u8> {
         let fixed = head_fixed_part(file)?;
         if !self.has(Fault::SpareAfterFields) {
             head_spare(fixed)?;

@@ -9,6 +9,7 @@ mod cells;
 mod fault;
 mod file;
 mod refusals;
+mod sizes;
 mod update;
 
 pub use fault::{Fault, FAULTS, SEEN_IN_BOTH};

@@ -3,6 +3,7 @@
 use second::decode::{fixed_part, spare};
 use second::{state_from_numbers, Kind, Layer, Network};
 
+use super::bands::bad_bands;
 use super::file::put_clamp_in_order;
 use super::{Fault, Wrong};
 use crate::calls::State;
@@ -42,13 +43,15 @@ impl Wrong {
         asked: Asked,
     ) -> Result<Network, u8> {
         let network = self.decode(file)?;
-        let sound = self.state_is_sound(&network, &state_from_numbers(state));
+        let bands = state_from_numbers(state);
+        let sound = self.state_is_sound(&network, &bands);
         if self.has(Fault::FiveBeforeFour) && !sound {
             return Err(5);
         }
         let network = self.test_4(network, sums, area, asked)?;
         let possible = self.sums_are_possible(&network, sums, state, asked);
-        if self.has(Fault::SixBeforeFive) && !possible {
+        let two_bad = self.has(Fault::SixBeforeTwoBadBands) && bad_bands(&network, &bands).len() == 2;
+        if (self.has(Fault::SixBeforeFive) || two_bad) && !possible {
             return Err(6);
         }
         if self.has(Fault::OwnTestBeforeFive) {

@@ -1,72 +1,80 @@
-//! What the walk program is to write, from the second implementation: walk NETWORK PICTURE FIRST ROWS LAYER RECORD.
+//! What the walk program is to write, from the second implementation: walk NETWORK PICTURE FIRST COUNT ROWS LAYER RECORD.
+//! A wrong word or length ends it, and so does any refusal but that of the last reading.
 
 use std::{env, fs};
 
-use second::{Outcome, State};
+use second::{Outcome, Sizes, State};
 
 struct Morning {
     file: Vec<u8>,
+    sizes: Sizes,
     sums: Vec<u32>,
     area: Vec<u8>,
     state: State,
 }
 
 impl Morning {
-    fn change_rows(&mut self, first: usize, rows: &[u8]) {
-        let outcome = second::change_rows(&self.file, &self.sums, &mut self.area, self.state, first, 3, rows);
-        self.answered("change rows", outcome);
+    /// The network is loaded, with the picture in the area.
+    fn begin(file: Vec<u8>, picture: &[u8]) -> Morning {
+        let sizes = second::sizes(&file);
+        assert_eq!(sizes.number, 0, "the network is refused");
+        let mut area = vec![0; sizes.area];
+        area[..sizes.picture].copy_from_slice(picture);
+        let mut sums = vec![0; sizes.sums];
+        let loaded = second::load(&file, &mut sums, &area);
+        let mut morning = Morning { file, sizes, sums, area, state: loaded.state };
+        morning.answered("load", loaded, "");
+        morning
+    }
+
+    fn change_rows(&mut self, first: usize, count: usize, rows: &[u8]) {
+        let outcome = second::change_rows(&self.file, &self.sums, &mut self.area, self.state, first, count, rows);
+        self.answered("change rows", outcome, "");
     }
 
     fn replace_layer(&mut self, layer: usize, record: &[u8]) {
         let outcome = second::replace_layer(&mut self.file, &mut self.sums, &self.area, self.state, layer, record);
-        self.answered("replace layer", outcome);
+        self.answered("replace layer", outcome, "");
     }
 
-    fn update(&mut self) {
+    /// An update, how much it recomputed of what the layers make, and a reading.
+    fn update_and_read(&mut self) {
         let outcome = second::update(&self.file, &self.sums, &mut self.area, self.state);
-        let network = second::decode(&self.file).expect("the sample is taken");
-        let all: usize = (1..network.tensors()).map(|tensor| network.shape(tensor).bytes()).sum();
-        println!("update: number {}, count {} of {all} bytes", outcome.number, outcome.count);
-        self.state = outcome.state;
+        let all = self.sizes.area - self.sizes.picture;
+        self.answered("update", outcome, &format!(", count {} of {all} bytes", outcome.count));
+        self.read();
     }
 
+    /// A reading is one line, however many rows the tensor has.
     fn read(&mut self) {
-        let network = second::decode(&self.file).expect("the sample is taken");
-        let last = network.shape(network.tensors() - 1);
-        let mut reading = vec![0; last.bytes()];
+        let mut reading = vec![0; self.sizes.reading];
         let outcome = second::read(&self.file, &self.sums, &self.area, self.state, &mut reading);
-        self.answered("reading", outcome);
+        println!("reading: number {}", outcome.number);
         if outcome.number == 0 {
-            for row in reading.chunks(last.row_bytes()) {
-                println!("{}", row.iter().map(|byte| format!(" {byte}")).collect::<String>());
-            }
+            println!("{}", reading.iter().map(|byte| format!(" {byte}")).collect::<String>());
         }
     }
 
-    fn answered(&mut self, call: &str, outcome: Outcome) {
-        println!("{call}: number {}", outcome.number);
+    fn answered(&mut self, call: &str, outcome: Outcome, more: &str) {
+        assert_eq!(outcome.number, 0, "{call} is refused");
+        println!("{call}: number 0{more}");
         self.state = outcome.state;
     }
 }
 
 fn main() {
     let words: Vec<String> = env::args().collect();
-    let bytes = |i: usize| fs::read(&words[i]).expect("the file is there");
+    assert_eq!(words.len(), 8, "walk NETWORK PICTURE FIRST COUNT ROWS LAYER RECORD");
+    let bytes = |i: usize| fs::read(&words[i]).expect("a file that can be read");
     let number = |i: usize| words[i].parse::<usize>().expect("a number");
-    let mut area = vec![0; 65_536];
-    let picture = bytes(2);
-    area[..picture.len()].copy_from_slice(&picture);
-    let mut morning = Morning { file: bytes(1), sums: vec![0; 16_384], area, state: second::ALL_STALE };
-    let loaded = second::load(&morning.file, &mut morning.sums, &morning.area);
-    morning.answered("load", loaded);
-    morning.update();
-    morning.read();
-    morning.change_rows(number(3), &bytes(4));
-    morning.update();
-    morning.read();
-    morning.replace_layer(number(5), &bytes(6));
-    morning.update();
-    morning.read();
-    morning.change_rows(number(3), &bytes(4));
+    let (first, count, rows) = (number(3), number(4), bytes(5));
+    let (layer, record) = (number(6), bytes(7));
+    let mut morning = Morning::begin(bytes(1), &bytes(2));
+    morning.update_and_read();
+    morning.change_rows(first, count, &rows);
+    morning.update_and_read();
+    morning.replace_layer(layer, &record);
+    morning.update_and_read();
+    morning.change_rows(first, count, &rows);
     morning.read();
 }
