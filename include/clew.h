@@ -1,8 +1,8 @@
 /* Clewcringle: a small 8-bit network over one picture, kept up to date row by row.
  *
  * Every call finishes on every input and checks network, sums, work area and state itself. It answers 0 (done) or a
- * refusal number; a refused call changes no lent byte, sum or state number, except that a refused load sets the all-stale
- * state, which no other call takes.
+ * refusal number. A refused call changes no lent byte, sum or state number, and its count or sizes are 0; a refused
+ * load sets the all-stale state, which no other call takes.
  *
  *   1  a record is cut, its mark unknown, a spare not 0, or bytes follow the last layer
  *   2  a field or bias outside its range
@@ -15,15 +15,26 @@
  *   9  replacement differs in length, or in bytes 0-6 (convolution), 0-3 (full), 0-2 (add); or has a field, bias or
  *      spare out of range
  *
- * Load gives 1 to 4, update 1 to 6, change rows 1 to 7, read 1 to 8, replace 1 to 7 and 9.
+ * N is the number of terms of an output, which is the number of bytes in a window: kernel rows x kernel columns x input
+ * channels for a convolution, all bytes of the input tensor for a full layer.
+ *
+ * Sizes gives 1 to 3, load 1 to 4, update 1 to 6, change rows 1 to 7, read 1 to 8, replace 1 to 7 and 9. Where several
+ * are due, the first in this order is given. Only 1 to 3 go by the file's order: its length is tested first, then the
+ * records in order, and the first fault met decides: mark and fixed part present, spare, fields in file order, shape,
+ * biases and weights present, biases in order. Trailing bytes come last.
  *
  * Buffers, all the caller's:
  *   net    the network file, at most 65,536 bytes
- *   sums   a number for each filter and output of the network; 65,536 / 4 are always enough
- *   area   the tensors one after another, the picture first; 65,536 bytes are always enough
+ *   sums   a number for each filter and output of the network; sums_len counts numbers, not bytes
+ *   area   the tensors one after another, the picture first
  *   state  first and end of the band of tensor 0, then of tensor 1, .. of tensor 16: 34 numbers
- * Pass the same buffers and the latest state to each call, and change nothing else in between. (Only before the first
- * update the picture may also be written straight to the front of the area.) Then every reading is that of a fresh run.
+ * How large they must be clew_sizes says; 4,096 sums and 65,536 bytes of area are always enough. Pass the same buffers
+ * and the latest state to each call, and change nothing else in between. (Only before the first update the picture may
+ * also be written straight to the front of the area.) Then every reading is that of a fresh run.
+ *
+ * A buffer of length 0 may be NULL, as the sums of a network of adds alone; state, count and sizes are never NULL.
+ * sums, count and sizes are aligned as uint32_t, state as uint16_t; bytes may stand anywhere. A buffer that a call may
+ * write (one without const) overlaps no other buffer of that call; those that it only reads may overlap.
  */
 #ifndef CLEW_H
 #define CLEW_H
@@ -35,7 +46,12 @@
 extern "C" {
 #endif
 
-/* Fills the sums and makes every row of every tensor stale. The area is only measured. */
+/* How large the network's buffers must be, and no larger: bytes of the picture, numbers in the sum store, bytes of the
+ * area (the picture's among them), bytes of a reading. All four are 0 where it refuses. */
+uint8_t clew_sizes(const uint8_t *net, size_t net_len, uint32_t sizes[4]);
+
+/* Fills the sums and makes every row of every tensor stale. The area is only measured, and the state only written: it
+ * may hold anything before. */
 uint8_t clew_load(const uint8_t *net, size_t net_len, uint32_t *sums, size_t sums_len, const uint8_t *area,
                   size_t area_len, uint16_t state[34]);
 

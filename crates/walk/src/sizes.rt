@@ -1,34 +1,13 @@
-// How many bytes a network works with.
+// What a network's sizes ask of the picture's file, and tell the morning.
 ghost use Rattle.io.specs.Counts.{Counts};
-use fields::shape::bytes_of;
-use network::file::decode;
-use network::net::tensor;
+use crate::input;
+use crate::print;
 
-// The bytes that the layers make, those of the last tensor, and those of one of its rows.
-pub struct Sizes {
+// Whether network and picture fit, the bytes that the layers make, and those of a reading.
+pub struct Fitting {
+    pub ok: bool,
     pub made: usize,
-    pub last: usize,
-    pub width: usize,
-}
-
-// Nothing where the file is refused.
-pub fn sizes_of(file: &[u8]) -> Sizes {
-    let d = decode(file);
-    let n = d.network;
-    if d.fault != 0 {
-        return Sizes {
-            made: 0,
-            last: 0,
-            width: 0,
-        };
-    }
-    let picture = n.picture;
-    let s = tensor(n, n.count);
-    Sizes {
-        made: n.area - bytes_of(picture),
-        last: bytes_of(s),
-        width: s.columns * s.channels,
-    }
+    pub reading: usize,
 }
 
 // At most as many as buf has.
@@ -39,4 +18,28 @@ pub fn most(n: usize, buf: &[u8]) -> usize
         return n;
     }
     buf.len()
+}
+
+// What is left of a.
+fn less(a: usize, b: usize) -> usize {
+    if a < b {
+        return 0;
+    }
+    a - b
+}
+
+// The network must be taken, and the picture's file have the picture's length.
+pub fn fit(file: &[u8], length: usize) -> Fitting {
+    let sizes = clew::sizes(file);
+    if sizes.number != 0 {
+        print::refusal(print::Call::Sizes, sizes.number);
+    } else if length != sizes.picture {
+        input::say_word(2);
+        print::other_length(length, sizes.picture);
+    }
+    Fitting {
+        ok: sizes.number == 0 && length == sizes.picture,
+        made: less(sizes.area, sizes.picture),
+        reading: sizes.reading,
+    }
 }

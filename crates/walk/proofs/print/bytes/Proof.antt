@@ -1,5 +1,4 @@
--- `walk::print::bytes` is safe and ends: the loop goes through the bytes once.
--- Assumes nothing.
+-- `walk::print::bytes` is safe and ends: the loop goes through the bytes once. Assumes nothing.
 use Prim.Native.Nat.{_≤_, _-_}
 use lib.ListN.{length}
 use borrow.Author.Needs.{needs}
@@ -7,16 +6,19 @@ use Rattle.walk.proofs.print.bytes.Statement.{statement}
 use Rattle.walk.proofs.print.bytes.Tie as tie
 
 abbrev Inv-loop : tie.InvT-loop
-Inv-loop tensor w column₀ k₀ t5 column k = (k ≤ length tensor) × (column ≤ k)
+Inv-loop buf n end k₀ t5 k = (k ≤ end) × (end ≤ length buf)
 
 abbrev μ-loop : tie.MeasureT-loop
-μ-loop tensor w column₀ k₀ t5 column k = length tensor - k
+μ-loop buf n end k₀ t5 k = end - k
+
+most-requires : tie.Need-most-requires Inv-loop μ-loop
+most-requires c κs = search needs
 
 loop-holds : tie.Need-loop-holds Inv-loop μ-loop
 loop-holds c = search needs
 
-shared-slice-read-byte : tie.Need-shared-slice-read-byte Inv-loop μ-loop
-shared-slice-read-byte c = search needs
+element-copy-out-byte : tie.Need-element-copy-out-byte Inv-loop μ-loop
+element-copy-out-byte c = search needs
 
 byte-requires : tie.Need-byte-requires Inv-loop μ-loop
 byte-requires c κs = search needs
@@ -24,26 +26,17 @@ byte-requires c κs = search needs
 add-k : tie.Need-add-k Inv-loop μ-loop
 add-k c = search needs
 
-add-column : tie.Need-add-column Inv-loop μ-loop
-add-column c = search needs
-
-slice-aggregate-word : tie.Need-slice-aggregate-word Inv-loop μ-loop
-slice-aggregate-word c = search needs
-
-word-requires : tie.Need-word-requires Inv-loop μ-loop
-word-requires c κs = search needs
-
 loop-less : tie.Need-loop-less Inv-loop μ-loop
 loop-less c = search needs
 
 loop-again : tie.Need-loop-again Inv-loop μ-loop
 loop-again c = search needs
 
-loop-less-2 : tie.Need-loop-less-2 Inv-loop μ-loop
-loop-less-2 c = search needs
+slice-aggregate-put : tie.Need-slice-aggregate-put Inv-loop μ-loop
+slice-aggregate-put c = search needs
 
-loop-again-2 : tie.Need-loop-again-2 Inv-loop μ-loop
-loop-again-2 c = search needs
+put-requires : tie.Need-put-requires Inv-loop μ-loop
+put-requires c κs = search needs
 
 returns : tie.Need-returns Inv-loop μ-loop
 returns c = search needs
@@ -54,15 +47,13 @@ bytes-spec =
     (tie.spec
     Inv-loop
     μ-loop
+    most-requires
     loop-holds
-    shared-slice-read-byte
+    element-copy-out-byte
     byte-requires
     add-k
-    add-column
-    slice-aggregate-word
-    word-requires
     loop-less
     loop-again
-    loop-less-2
-    loop-again-2
+    slice-aggregate-put
+    put-requires
     returns)

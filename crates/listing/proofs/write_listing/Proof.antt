@@ -1,26 +1,14 @@
--- `listing::main` meets its contract: it is safe and ends. What it writes is `table`'s to say.
+-- `listing::write_listing` is safe and ends: the text fits into the slice lent for it. What the text is, is `listingOf`'s to say.
 -- Assumes nothing.
 use mathlib.Core.Path.{sym}
 use native.Mathlib.Omega.{arith}
 use lib.Seq.{length-take-le}
 use borrow.Author.Needs.{needs}
-use Rattle.listing.proofs.main.Statement.{statement}
-use Rattle.listing.proofs.main.Tie as tie
-
-slice-aggregate-read-full : tie.Need-slice-aggregate-read-full
-slice-aggregate-read-full c = search needs
-
-read-full-requires : tie.Need-read-full-requires
-read-full-requires c κs = search needs
-
-array-share-prefix-file : tie.Need-array-share-prefix-file
-array-share-prefix-file c = search needs
+use Rattle.listing.proofs.write_listing.Statement.{statement}
+use Rattle.listing.proofs.write_listing.Tie as tie
 
 slice-aggregate-list : tie.Need-slice-aggregate-list
 slice-aggregate-list c = search needs
-
-slice-aggregate-list-2 : tie.Need-slice-aggregate-list-2
-slice-aggregate-list-2 c = search needs
 
 list-requires : tie.Need-list-requires
 list-requires c κs = search needs
@@ -34,20 +22,28 @@ slice-aggregate-write-all c = sym (length-take-le _ _ (omega arith))
 write-all-requires : tie.Need-write-all-requires
 write-all-requires c κs = search needs
 
+slice-aggregate-say : tie.Need-slice-aggregate-say
+slice-aggregate-say c = search needs
+
+say-requires : tie.Need-say-requires
+say-requires c κs = search needs
+
 returns : tie.Need-returns
 returns c = search needs
 
-pub main-spec : {M : Type 1} → statement M
-main-spec =
+returns-2 : tie.Need-returns-2
+returns-2 c = search needs
+
+pub write-listing-spec : {M : Type 1} → statement M
+write-listing-spec =
     tie.close
     (tie.spec
-    slice-aggregate-read-full
-    read-full-requires
-    array-share-prefix-file
     slice-aggregate-list
-    slice-aggregate-list-2
     list-requires
     array-share-prefix-out
     slice-aggregate-write-all
     write-all-requires
-    returns)
+    slice-aggregate-say
+    say-requires
+    returns
+    returns-2)
