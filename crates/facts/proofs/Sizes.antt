@@ -18,6 +18,7 @@ use Rattle.checks.specs.Tests.{roomFault, loadFault, rowsFault, layerFault, sli
 use Rattle.checks.proofs.Passed.{load-passed, layer-passed, slice-passed}
 use Rattle.clew.specs.Sizes.{sizesBy, sizesOf}
 use Rattle.clew.specs.Calls.{loadOf, replaceOf, replaceBy}
+use Rattle.clew.proofs.Sized.{sizes-taken}
 use Rattle.facts.specs.History.{System, networkOf, withFile, after}
 use Rattle.facts.specs.History.Call.{change, replace, update, read}
 use Rattle.facts.specs.Sizes.{SizesAsked, SizesSuffice, SizesStay}
@@ -26,11 +27,6 @@ use Rattle.facts.proofs.Demand1.{tests-in-order}
 use Rattle.facts.proofs.Model.{Alike}
 use Rattle.facts.proofs.Steps.{faultOf, passed}
 use Rattle.facts.proofs.Tensors.{rows-bytes}
-
--- the sizes of a file that is taken are those of its network
-sizes-are : (file : List ℕ) → decodeOf file .fault ≡ 0 → sizesOf file ≡ sizesBy 0 (decodeOf file .network)
-unfolding sizesOf
-sizes-are file e = rw e
 
 -- ---- what the calls ask
 
@@ -71,7 +67,7 @@ module _ (file : List ℕ) (e : decodeOf file .fault ≡ 0) where
 
   asked : SizesAsked file
   asked =
-      let z = sizes-are file e in
+      let z = sizes-taken file refl e in
       record {
         accepted = λ sums area p q. accepted sums area (rw z at p) (rw z at q);
         needed = λ sums area h. rw z (needed sums area h);
@@ -105,7 +101,7 @@ replaced-sizes s j r = go _ refl
         let l = layer-passed (networkOf s) j (p .0) in
         let fault = passed s (q .0) .load .fault in
         let x = exchanged (s .file) (j - 1) r fault (omega arith) (p .1) in
-        sizes-are _ (x .fault) ∙ alike-sizes _ _ (x .alike) ∙ sym (sizes-are (s .file) fault)
+        sizes-taken _ refl (x .fault) ∙ alike-sizes _ _ (x .alike) ∙ sym (sizes-taken (s .file) refl fault)
     go (suc f) e = refl
 
 pub sizes-stay : SizesStay
