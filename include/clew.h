@@ -32,14 +32,14 @@
  * and the latest state to each call, and change nothing else in between. (Only before the first update the picture may
  * also be written straight to the front of the area.) Then every reading is that of a fresh run.
  *
- * A buffer of length 0 may be NULL, as the sums of a network of adds alone; state, count and sizes are never NULL.
+ * Lengths, row and layer numbers have 64 bits on every machine, so that this header serves all: a size_t is passed as it
+ * is. A buffer of length 0 may be NULL, as the sums of a network of adds alone; state, count and sizes are never NULL.
  * sums, count and sizes are aligned as uint32_t, state as uint16_t; bytes may stand anywhere. A buffer that a call may
  * write (one without const) overlaps no other buffer of that call; those that it only reads may overlap.
  */
 #ifndef CLEW_H
 #define CLEW_H
 
-#include <stddef.h>
 #include <stdint.h>
 
 #ifdef __cplusplus
@@ -48,31 +48,31 @@ extern "C" {
 
 /* How large the network's buffers must be, and no larger: bytes of the picture, numbers in the sum store, bytes of the
  * area (the picture's among them), bytes of a reading. All four are 0 where it refuses. */
-uint8_t clew_sizes(const uint8_t *net, size_t net_len, uint32_t sizes[4]);
+uint8_t clew_sizes(const uint8_t *net, uint64_t net_len, uint32_t sizes[4]);
 
 /* Fills the sums and makes every row of every tensor stale. The area is only measured, and the state only written: it
  * may hold anything before. */
-uint8_t clew_load(const uint8_t *net, size_t net_len, uint32_t *sums, size_t sums_len, const uint8_t *area,
-                  size_t area_len, uint16_t state[34]);
+uint8_t clew_load(const uint8_t *net, uint64_t net_len, uint32_t *sums, uint64_t sums_len, const uint8_t *area,
+                  uint64_t area_len, uint16_t state[34]);
 
 /* Writes the picture's rows first up to first + count, of columns x channels bytes each. */
-uint8_t clew_change_rows(const uint8_t *net, size_t net_len, const uint32_t *sums, size_t sums_len, uint8_t *area,
-                         size_t area_len, uint16_t state[34], size_t first, size_t count, const uint8_t *rows,
-                         size_t rows_len);
+uint8_t clew_change_rows(const uint8_t *net, uint64_t net_len, const uint32_t *sums, uint64_t sums_len, uint8_t *area,
+                         uint64_t area_len, uint16_t state[34], uint64_t first, uint64_t count, const uint8_t *rows,
+                         uint64_t rows_len);
 
 /* Writes a record over that of a layer, counted from 1, and its sums. */
-uint8_t clew_replace_layer(uint8_t *net, size_t net_len, uint32_t *sums, size_t sums_len, const uint8_t *area,
-                           size_t area_len, uint16_t state[34], size_t layer, const uint8_t *record,
-                           size_t record_len);
+uint8_t clew_replace_layer(uint8_t *net, uint64_t net_len, uint32_t *sums, uint64_t sums_len, const uint8_t *area,
+                           uint64_t area_len, uint16_t state[34], uint64_t layer, const uint8_t *record,
+                           uint64_t record_len);
 
 /* Recomputes what the stale rows reach, and nothing else; *count is the number of bytes recomputed, 0 where it
  * refuses. */
-uint8_t clew_update(const uint8_t *net, size_t net_len, const uint32_t *sums, size_t sums_len, uint8_t *area,
-                    size_t area_len, uint16_t state[34], uint32_t *count);
+uint8_t clew_update(const uint8_t *net, uint64_t net_len, const uint32_t *sums, uint64_t sums_len, uint8_t *area,
+                    uint64_t area_len, uint16_t state[34], uint32_t *count);
 
 /* Copies the last tensor; out_len must be its length. */
-uint8_t clew_read(const uint8_t *net, size_t net_len, const uint32_t *sums, size_t sums_len, const uint8_t *area,
-                  size_t area_len, const uint16_t state[34], uint8_t *out, size_t out_len);
+uint8_t clew_read(const uint8_t *net, uint64_t net_len, const uint32_t *sums, uint64_t sums_len, const uint8_t *area,
+                  uint64_t area_len, const uint16_t state[34], uint8_t *out, uint64_t out_len);
 
 #ifdef __cplusplus
 }

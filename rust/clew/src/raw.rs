@@ -9,72 +9,85 @@ pub type State = [u16; 34];
 extern "C" {
     fn clew_load(
         network: *const u8,
-        network_length: usize,
+        network_length: u64,
         sums: *mut u32,
-        sums_length: usize,
+        sums_length: u64,
         area: *const u8,
-        area_length: usize,
+        area_length: u64,
         state: *mut State,
     ) -> u8;
 
     fn clew_change_rows(
         network: *const u8,
-        network_length: usize,
+        network_length: u64,
         sums: *const u32,
-        sums_length: usize,
+        sums_length: u64,
         area: *mut u8,
-        area_length: usize,
+        area_length: u64,
         state: *mut State,
-        first: usize,
-        count: usize,
+        first: u64,
+        count: u64,
         rows: *const u8,
-        rows_length: usize,
+        rows_length: u64,
     ) -> u8;
 
     fn clew_replace_layer(
         network: *mut u8,
-        network_length: usize,
+        network_length: u64,
         sums: *mut u32,
-        sums_length: usize,
+        sums_length: u64,
         area: *const u8,
-        area_length: usize,
+        area_length: u64,
         state: *mut State,
-        layer: usize,
+        layer: u64,
         record: *const u8,
-        record_length: usize,
+        record_length: u64,
     ) -> u8;
 
     fn clew_update(
         network: *const u8,
-        network_length: usize,
+        network_length: u64,
         sums: *const u32,
-        sums_length: usize,
+        sums_length: u64,
         area: *mut u8,
-        area_length: usize,
+        area_length: u64,
         state: *mut State,
         count: *mut u32,
     ) -> u8;
 
     fn clew_read(
         network: *const u8,
-        network_length: usize,
+        network_length: u64,
         sums: *const u32,
-        sums_length: usize,
+        sums_length: u64,
         area: *const u8,
-        area_length: usize,
+        area_length: u64,
         state: *const State,
         out: *mut u8,
-        out_length: usize,
+        out_length: u64,
     ) -> u8;
 
-    fn clew_sizes(network: *const u8, network_length: usize, sizes: *mut [u32; 4]) -> u8;
+    fn clew_sizes(network: *const u8, network_length: u64, sizes: *mut [u32; 4]) -> u8;
+}
+
+/// A slice's length as the C interface has it: 64 bits on every machine, so that no cast loses any.
+fn length<T>(slice: &[T]) -> u64 {
+    slice.len() as u64
 }
 
 /// Fills the sums, and writes the state: everything stale, or the all-stale state if it refuses.
 pub fn load(network: &[u8], sums: &mut [u32], area: &[u8], state: &mut State) -> u8 {
     // SAFETY: each pointer comes from a slice or reference that lives through the call, with the slice's own length.
     unsafe {
-        clew_load(network.as_ptr(), network.len(), sums.as_mut_ptr(), sums.len(), area.as_ptr(), area.len(), state)
+        clew_load(
+            network.as_ptr(),
+            length(network),
+            sums.as_mut_ptr(),
+            length(sums),
+            area.as_ptr(),
+            length(area),
+            state,
+        )
     }
 }
 
@@ -92,16 +105,16 @@ pub fn change_rows(
     unsafe {
         clew_change_rows(
             network.as_ptr(),
-            network.len(),
+            length(network),
             sums.as_ptr(),
-            sums.len(),
+            length(sums),
             area.as_mut_ptr(),
-            area.len(),
+            length(area),
             state,
-            first,
-            count,
+            first as u64,
+            count as u64,
             rows.as_ptr(),
-            rows.len(),
+            length(rows),
         )
     }
 }
@@ -119,15 +132,15 @@ pub fn replace_layer(
     unsafe {
         clew_replace_layer(
             network.as_mut_ptr(),
-            network.len(),
+            length(network),
             sums.as_mut_ptr(),
-            sums.len(),
+            length(sums),
             area.as_ptr(),
-            area.len(),
+            length(area),
             state,
-            layer,
+            layer as u64,
             record.as_ptr(),
-            record.len(),
+            length(record),
         )
     }
 }
@@ -140,11 +153,11 @@ pub fn update(network: &[u8], sums: &[u32], area: &mut [u8], state: &mut State) 
     let number = unsafe {
         clew_update(
             network.as_ptr(),
-            network.len(),
+            length(network),
             sums.as_ptr(),
-            sums.len(),
+            length(sums),
             area.as_mut_ptr(),
-            area.len(),
+            length(area),
             state,
             &mut count,
         )
@@ -158,14 +171,14 @@ pub fn read(network: &[u8], sums: &[u32], area: &[u8], state: &State, out: &mut 
     unsafe {
         clew_read(
             network.as_ptr(),
-            network.len(),
+            length(network),
             sums.as_ptr(),
-            sums.len(),
+            length(sums),
             area.as_ptr(),
-            area.len(),
+            length(area),
             state,
             out.as_mut_ptr(),
-            out.len(),
+            length(out),
         )
     }
 }
@@ -176,6 +189,6 @@ pub fn sizes(network: &[u8]) -> (u8, [u32; 4]) {
     // Not 0 beforehand: a refusal has to write its 0s too.
     let mut sizes = [u32::MAX; 4];
     // SAFETY: as in `load`.
-    let number = unsafe { clew_sizes(network.as_ptr(), network.len(), &mut sizes) };
+    let number = unsafe { clew_sizes(network.as_ptr(), length(network), &mut sizes) };
     (number, sizes)
 }
