@@ -82,6 +82,22 @@ impl Call {
     pub fn name(self) -> &'static str {
         CALL_NAMES[self.index()]
     }
+
+    /// The numbers that it is given besides its buffers; 0 where it has none.
+    pub fn numbers(self) -> [usize; 2] {
+        match self {
+            Call::ChangeRows { first, count } => [first, count],
+            Call::ReplaceLayer { layer } => [layer, 0],
+            _ => [0, 0],
+        }
+    }
+
+    /// The call that has this index and these numbers.
+    pub fn of(index: usize, [first, second]: [usize; 2]) -> Option<Call> {
+        let rows = Call::ChangeRows { first, count: second };
+        let layer = Call::ReplaceLayer { layer: first };
+        [Call::Load, rows, layer, Call::Update, Call::Read, Call::Sizes].get(index).copied()
+    }
 }
 
 /// The numbers that each of [`CALL_NAMES`] may give: sizes tests 1 to 3, load 1 to 4, the others 1 to 6 and then their
@@ -128,5 +144,19 @@ impl From<u8> for Answer {
 impl fmt::Display for Answer {
     fn fmt(&self, f: &mut fmt::Formatter<'_>) -> fmt::Result {
         write!(f, "number {} count {} sizes {:?}", self.number, self.count, self.sizes)
+    }
+}
+
+#[cfg(test)]
+mod tests {
+    use super::*;
+
+    #[test]
+    fn index_and_numbers_give_the_call() {
+        for (index, numbers) in [[0, 0], [3, 4], [5, 0], [0, 0], [0, 0], [0, 0]].into_iter().enumerate() {
+            let call = Call::of(index, numbers).expect("a call for each name");
+            assert_eq!((call.index(), call.numbers()), (index, numbers));
+        }
+        assert_eq!(Call::of(CALL_NAMES.len(), [0, 0]), None);
     }
 }

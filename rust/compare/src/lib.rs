@@ -4,6 +4,8 @@
 //! * [`calls`]: the trait of the calls, and a call with its answer
 //! * [`lent`]: the buffers lent to a call, with fences around them
 //! * [`implementations`]: the second implementation and the archive as `Calls`
+//! * [`served`]: a program at the other end of two pipes as `Calls`
+//! * [`serve`]: such a program, and [`message`]: what the two send each other
 //! * [`pair`]: one call made on both, and how they differ
 //! * [`generate`]: seeded networks, damage, states, sums and arguments
 //! * [`cases`]: what is done with them, case by case
@@ -18,9 +20,12 @@ pub mod cases;
 pub mod generate;
 pub mod implementations;
 pub mod lent;
+pub mod message;
 pub mod pair;
 pub mod rng;
 pub mod run;
 pub mod self_test;
+pub mod serve;
+pub mod served;
 pub mod tally;
 pub mod wrong;

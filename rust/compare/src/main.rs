@@ -1,7 +1,8 @@
-//! `compare`: the second implementation against the archive, itself, or wrong variants of itself.
+//! `compare`: the second implementation against the archive, a server, itself, or wrong variants of itself.
 
 mod options;
 
+use std::io::{stdin, stdout};
 use std::process::ExitCode;
 
 use compare::calls::Calls;
@@ -9,6 +10,8 @@ use compare::implementations::Second;
 use compare::rng::{fresh_seed, FIXED_SEED};
 use compare::run::{run, run_case, Found, Until};
 use compare::self_test::{control, try_each};
+use compare::serve::serve;
+use compare::served::Served;
 use compare::tally::Tally;
 use options::{Against, Options, USAGE};
 
@@ -23,16 +26,18 @@ fn main() -> ExitCode {
             return ExitCode::from(2);
         }
     };
-    match options.against {
-        Against::Itself => compare(&options, &Second),
+    match &options.against {
+        Against::Itself => exit_code(compare(&options, &Second)),
         Against::Archive => compare_archive(&options),
         Against::WrongVariants => self_test(&options),
+        Against::Served { program, words } => compare_served(&options, program, words),
+        Against::Nothing => answer_calls(),
     }
 }
 
 #[cfg(feature = "archive")]
 fn compare_archive(options: &Options) -> ExitCode {
-    compare(options, &compare::implementations::Archive)
+    exit_code(compare(options, &compare::implementations::Archive))
 }
 
 #[cfg(not(feature = "archive"))]
@@ -41,14 +46,39 @@ fn compare_archive(_: &Options) -> ExitCode {
     ExitCode::from(2)
 }
 
+/// The server's answers have to agree, and it has to end well.
+fn compare_served(options: &Options, program: &str, words: &[String]) -> ExitCode {
+    let served = match Served::start(program, words) {
+        Ok(served) => served,
+        Err(error) => {
+            eprintln!("compare: {program}: {error}");
+            return ExitCode::from(2);
+        }
+    };
+    let fine = compare(options, &served);
+    let end = served.end();
+    if let Err(words) = &end {
+        println!("compare: {words}");
+    }
+    exit_code(fine && end.is_ok())
+}
+
+fn answer_calls() -> ExitCode {
+    let outcome = serve(&Second, stdin().lock(), stdout().lock());
+    if let Err(error) = &outcome {
+        eprintln!("compare: --serve: {error}");
+    }
+    exit_code(outcome.is_ok())
+}
+
 /// The seed that is given, or the fixed one and then a fresh one.
-fn compare(options: &Options, other: &dyn Calls) -> ExitCode {
+fn compare(options: &Options, other: &dyn Calls) -> bool {
     let seed = options.seed.unwrap_or(FIXED_SEED);
     if let Some(case) = options.case {
-        return exit_code(told(seed, run_case(&Second, other, seed, case), Meets::Some));
+        return told(seed, run_case(&Second, other, seed, case), Meets::Some);
     }
     let fine = compare_seed(options, other, seed, options.until, Meets::All);
-    exit_code(fine && (options.seed.is_some() || compare_fresh(options, other)))
+    fine && (options.seed.is_some() || compare_fresh(options, other))
 }
 
 /// A seed that no run had before, told before it is used: an implementation may not come back.
