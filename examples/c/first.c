@@ -1,11 +1,12 @@
 /* A first use from C: load a network, write the picture, update; COUNT camera rows from row FIRST on change, update; read.
  *
- *   cc -Iinclude examples/c/first.c target/staticlib/libclew_c.a -o first
+ *   cc -Iinclude examples/c/first.c "$(tools/archive native)/libclew_c.a" -o first
  *   ./first samples/centre.net samples/picture.bytes 15 3 samples/rows-15-to-17.bytes
  *
  * What is wrong with a word, a file or a call is said on standard error, and the exit status is 1. */
 #include "clew.h"
 
+#include <inttypes.h>
 #include <stdio.h>
 #include <stdlib.h>
 #include <string.h>
@@ -91,7 +92,7 @@ static void begin(const char *network, const char *picture)
     struct file p = read_file(picture);
     if (p.len != sizes[0]) {
         const char *how = p.len < sizes[0] ? "fewer" : "more";
-        fprintf(stderr, "%s: %s bytes than the network's picture, which has %u\n", picture, how, sizes[0]);
+        fprintf(stderr, "%s: %s bytes than the network's picture, which has %" PRIu32 "\n", picture, how, sizes[0]);
         exit(1);
     }
     sums = room(sizes[1] * sizeof *sums);
@@ -105,7 +106,7 @@ static void update(void)
 {
     uint32_t count;
     done("update", clew_update(net.bytes, net.len, sums, sizes[1], area, sizes[2], state, &count));
-    printf("%u bytes recomputed\n", count);
+    printf("%" PRIu32 " bytes recomputed\n", count);
 }
 
 int main(int argc, char **argv)
