@@ -1,7 +1,7 @@
 /* Makes each call that it is sent, with the library of its own processor, and sends back every buffer. rust/compare/src/message.rs
  * says what is sent. Both ends are little-endian.
  *
- * At the end of its input it says how deep a call's stack went. Exit status 1: the input is cut, or a call wrote beside its buffers. */
+ * At the end of its input it says how deep a call's stack went. Exit status 1: a buffer is cut, or a call wrote beside one. */
 #include "clew.h"
 #include "platform.h"
 

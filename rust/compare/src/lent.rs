@@ -60,29 +60,6 @@ impl Lent {
         }
     }
 
-    /// Makes the call on one implementation.
-    pub fn make(&mut self, calls: &dyn Calls, call: Call) -> Answer {
-        let Lent { network, sums, area, slice, state } = self;
-        match call {
-            Call::Load => calls.load(network.get(), sums.get_mut(), area.get(), state).into(),
-            Call::ChangeRows { first, count } => {
-                calls.change_rows(network.get(), sums.get(), area.get_mut(), state, first, count, slice.get()).into()
-            }
-            Call::ReplaceLayer { layer } => {
-                calls.replace_layer(network.get_mut(), sums.get_mut(), area.get(), state, layer, slice.get()).into()
-            }
-            Call::Update => {
-                let (number, count) = calls.update(network.get(), sums.get(), area.get_mut(), state);
-                Answer { number, count, ..Answer::default() }
-            }
-            Call::Read => calls.read(network.get(), sums.get(), area.get(), state, slice.get_mut()).into(),
-            Call::Sizes => {
-                let (number, sizes) = calls.sizes(network.get());
-                Answer { number, sizes, ..Answer::default() }
-            }
-        }
-    }
-
     /// Where two sets of buffers differ, in words.
     pub fn differences(&self, other: &Lent) -> Vec<String> {
         let buffers = [
@@ -97,6 +74,41 @@ impl Lent {
             words.push(format!("state {:?} against {:?}", self.state, other.state));
         }
         words
+    }
+}
+
+/// An implementation as the comparison sees it: it makes a call on what it is lent.
+pub trait Implementation {
+    fn name(&self) -> String;
+
+    fn make(&self, lent: &mut Lent, call: Call) -> Answer;
+}
+
+impl<C: Calls> Implementation for C {
+    fn name(&self) -> String {
+        Calls::name(self)
+    }
+
+    fn make(&self, lent: &mut Lent, call: Call) -> Answer {
+        let Lent { network, sums, area, slice, state } = lent;
+        match call {
+            Call::Load => self.load(network.get(), sums.get_mut(), area.get(), state).into(),
+            Call::ChangeRows { first, count } => {
+                self.change_rows(network.get(), sums.get(), area.get_mut(), state, first, count, slice.get()).into()
+            }
+            Call::ReplaceLayer { layer } => {
+                self.replace_layer(network.get_mut(), sums.get_mut(), area.get(), state, layer, slice.get()).into()
+            }
+            Call::Update => {
+                let (number, count) = self.update(network.get(), sums.get(), area.get_mut(), state);
+                Answer { number, count, ..Answer::default() }
+            }
+            Call::Read => self.read(network.get(), sums.get(), area.get(), state, slice.get_mut()).into(),
+            Call::Sizes => {
+                let (number, sizes) = self.sizes(network.get());
+                Answer { number, sizes, ..Answer::default() }
+            }
+        }
     }
 }
 

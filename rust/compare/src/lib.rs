@@ -2,9 +2,9 @@
 //! byte and sum.
 //!
 //! * [`calls`]: the trait of the calls, and a call with its answer
-//! * [`lent`]: the buffers lent to a call, with fences around them
+//! * [`lent`]: the buffers lent to a call, with fences around them, and what makes a call on them
 //! * [`implementations`]: the second implementation and the archive as `Calls`
-//! * [`served`]: a program at the other end of two pipes as `Calls`
+//! * [`served`]: a program at the other end of two pipes
 //! * [`serve`]: such a program, and [`message`]: what the two send each other
 //! * [`pair`]: one call made on both, and how they differ
 //! * [`generate`]: seeded networks, damage, states, sums and arguments

@@ -5,8 +5,8 @@ mod options;
 use std::io::{stdin, stdout};
 use std::process::ExitCode;
 
-use compare::calls::Calls;
 use compare::implementations::Second;
+use compare::lent::Implementation;
 use compare::rng::{fresh_seed, FIXED_SEED};
 use compare::run::{run, run_case, Found, Until};
 use compare::self_test::{control, try_each};
@@ -72,7 +72,7 @@ fn answer_calls() -> ExitCode {
 }
 
 /// The seed that is given, or the fixed one and then a fresh one.
-fn compare(options: &Options, other: &dyn Calls) -> bool {
+fn compare(options: &Options, other: &dyn Implementation) -> bool {
     let seed = options.seed.unwrap_or(FIXED_SEED);
     if let Some(case) = options.case {
         return told(seed, run_case(&Second, other, seed, case), Meets::Some);
@@ -82,7 +82,7 @@ fn compare(options: &Options, other: &dyn Calls) -> bool {
 }
 
 /// A seed that no run had before, told before it is used: an implementation may not come back.
-fn compare_fresh(options: &Options, other: &dyn Calls) -> bool {
+fn compare_fresh(options: &Options, other: &dyn Implementation) -> bool {
     let seed = fresh_seed();
     println!("compare: fresh seed {seed}");
     compare_seed(options, other, seed, options.until.a_fifth(), Meets::Some)
@@ -95,7 +95,7 @@ enum Meets {
     Some,
 }
 
-fn compare_seed(options: &Options, other: &dyn Calls, seed: u64, until: Until, meets: Meets) -> bool {
+fn compare_seed(options: &Options, other: &dyn Implementation, seed: u64, until: Until, meets: Meets) -> bool {
     let outcome = run(&Second, other, seed, until, |case| {
         if options.trace {
             eprintln!("case {case}");

@@ -4,31 +4,43 @@
 //!   lengths in bytes of the six buffers; then the buffers.
 //! * The reply: the call's number in 8 bytes, then the buffers as the call left them, with the same lengths.
 //!
-//! Sums, count and sizes have 4 bytes a number, the state 2.
+//! The buffers are network, sums, area, state, what only some calls are lent (rows, a record or the reading slice), and
+//! what a call tells besides its number (the count or the four sizes). Sums, count and sizes have 4 bytes a number, the
+//! state 2. All are sent with every call, those too that it is not given, and all come back.
 
 use std::io::{self, BufRead, Error, ErrorKind, Read, Write};
 
-use crate::calls::Call;
+use crate::calls::{Answer, Call};
+use crate::lent::{Fenced, Lent};
 
-/// The buffers in their order. `own` is what only this call has, rows, a record or the reading slice; `told` is what it
-/// tells besides its number, the count or the four sizes. A call that has no such buffer has an empty one.
-pub const BUFFER_NAMES: [&str; 6] = ["network", "sums", "area", "state", "own", "told"];
-
-pub type Buffers = [Vec<u8>; 6];
+type Buffers = [Vec<u8>; 6];
 
 #[derive(Clone, Debug, PartialEq, Eq)]
 pub struct Request {
     pub call: Call,
-    pub buffers: Buffers,
+    buffers: Buffers,
 }
 
 #[derive(Clone, Debug, PartialEq, Eq)]
 pub struct Reply {
-    pub number: u8,
-    pub buffers: Buffers,
+    number: u8,
+    buffers: Buffers,
 }
 
 impl Request {
+    /// The call on what is lent. What it tells is not 0 beforehand: a refusal has to write that too.
+    pub fn of(lent: &Lent, call: Call) -> Request {
+        let before = Answer { number: 0, count: u32::MAX, sizes: [u32::MAX; 4] };
+        Request { call, buffers: buffers_of(lent, call, before) }
+    }
+
+    /// What is lent to the call.
+    pub fn lent(&self) -> Lent {
+        let [network, sums, area, state, own, _] = &self.buffers;
+        let state = to_numbers(state).try_into().expect("a state has 34 numbers");
+        Lent { slice: Fenced::new(own), ..Lent::new(network, &to_numbers(sums), area, state) }
+    }
+
     pub fn write(&self, to: &mut impl Write) -> io::Result<()> {
         let [first, second] = self.call.numbers();
         let head = [&[self.call.index(), first, second][..], &lengths(&self.buffers)].concat();
@@ -47,6 +59,28 @@ impl Request {
 }
 
 impl Reply {
+    /// What the call answered, and what it left of the buffers.
+    pub fn of(lent: &Lent, call: Call, answer: Answer) -> Reply {
+        Reply { number: answer.number, buffers: buffers_of(lent, call, answer) }
+    }
+
+    /// Leaves the buffers as the call did, and gives what it answered.
+    pub fn leave(&self, lent: &mut Lent, call: Call) -> Answer {
+        let [network, sums, area, state, own, told] = &self.buffers;
+        lent.network.get_mut().copy_from_slice(network);
+        lent.sums.get_mut().copy_from_slice(&to_numbers(sums));
+        lent.area.get_mut().copy_from_slice(area);
+        lent.state.copy_from_slice(&to_numbers(state));
+        lent.slice.get_mut().copy_from_slice(own);
+        let mut answer = Answer::from(self.number);
+        match call {
+            Call::Update => answer.count = to_numbers(told)[0],
+            Call::Sizes => answer.sizes.copy_from_slice(&to_numbers(told)),
+            _ => (),
+        }
+        answer
+    }
+
     pub fn write(&self, to: &mut impl Write) -> io::Result<()> {
         write(to, &[usize::from(self.number)], &self.buffers)
     }
@@ -58,8 +92,18 @@ impl Reply {
     }
 }
 
+fn buffers_of(lent: &Lent, call: Call, answer: Answer) -> Buffers {
+    let told = match call {
+        Call::Update => to_bytes(&[answer.count]),
+        Call::Sizes => to_bytes(&answer.sizes),
+        _ => Vec::new(),
+    };
+    let [network, area, own] = [&lent.network, &lent.area, &lent.slice].map(|bytes| bytes.get().to_vec());
+    [network, to_bytes(lent.sums.get()), area, to_bytes(&lent.state), own, told]
+}
+
 /// The bytes of a buffer's numbers.
-pub fn to_bytes<T: Copy + Into<u64>>(numbers: &[T]) -> Vec<u8> {
+fn to_bytes<T: Copy + Into<u64>>(numbers: &[T]) -> Vec<u8> {
     let mut bytes = Vec::with_capacity(size_of_val(numbers));
     for &number in numbers {
         bytes.extend_from_slice(&number.into().to_le_bytes()[..size_of::<T>()]);
@@ -68,7 +112,7 @@ pub fn to_bytes<T: Copy + Into<u64>>(numbers: &[T]) -> Vec<u8> {
 }
 
 /// A buffer's numbers, from their bytes.
-pub fn to_numbers<T: TryFrom<u64>>(bytes: &[u8]) -> Vec<T> {
+fn to_numbers<T: TryFrom<u64>>(bytes: &[u8]) -> Vec<T> {
     let number = |bytes: &[u8]| {
         let mut eight = [0; 8];
         eight[..bytes.len()].copy_from_slice(bytes);
@@ -118,9 +162,12 @@ fn wrong(words: &str) -> Error {
 mod tests {
     use super::*;
 
+    fn lent() -> Lent {
+        Lent { slice: Fenced::new(&[6, 7]), ..Lent::new(&[1, 2], &[0x0403_0201], &[5], [7; 34]) }
+    }
+
     fn rows() -> Request {
-        let buffers = [vec![1, 2], to_bytes(&[0x0403_0201_u32]), vec![5], to_bytes(&[7_u16; 34]), vec![6, 7], vec![]];
-        Request { call: Call::ChangeRows { first: 258, count: usize::MAX }, buffers }
+        Request::of(&lent(), Call::ChangeRows { first: 258, count: usize::MAX })
     }
 
     fn written(request: &Request) -> Vec<u8> {
@@ -148,6 +195,31 @@ mod tests {
         assert_eq!(bytes[..8], [9, 0, 0, 0, 0, 0, 0, 0]);
         assert_eq!(bytes[8..], reply.buffers.concat());
         assert_eq!(Reply::read(&mut bytes.as_slice(), &rows()).expect("a reply"), reply);
+    }
+
+    #[test]
+    fn what_is_told_is_not_0_beforehand() {
+        assert_eq!(Request::of(&lent(), Call::Update).buffers[5], [0xFF; 4]);
+        assert_eq!(Request::of(&lent(), Call::Sizes).buffers[5], [0xFF; 16]);
+    }
+
+    #[test]
+    fn all_that_comes_back_is_left() {
+        let mut left = lent();
+        left.network.get_mut()[0] = 20;
+        left.sums.get_mut()[0] = 21;
+        left.area.get_mut()[0] = 22;
+        left.slice.get_mut()[1] = 23;
+        left.state[33] = 24;
+        for (call, answer) in [
+            (Call::Load, Answer::from(4)),
+            (Call::Update, Answer { count: 70_000, ..Answer::from(0) }),
+            (Call::Sizes, Answer { sizes: [1, 2, 3, 70_000], ..Answer::from(0) }),
+        ] {
+            let mut lent = Request::of(&lent(), call).lent();
+            assert_eq!(Reply::of(&left, call, answer).leave(&mut lent, call), answer);
+            assert_eq!(lent, left);
+        }
     }
 
     #[test]

@@ -1,7 +1,7 @@
 //! One call made on two implementations, and how they differ.
 
-use crate::calls::{Answer, Call, Calls, ALL_STALE, MAY_GIVE};
-use crate::lent::Lent;
+use crate::calls::{Answer, Call, ALL_STALE, MAY_GIVE};
+use crate::lent::{Implementation, Lent};
 use crate::tally::Tally;
 
 /// Longer files are not printed whole.
@@ -14,13 +14,13 @@ pub struct Difference {
 }
 
 pub struct Pair<'a> {
-    left: &'a dyn Calls,
-    right: &'a dyn Calls,
+    left: &'a dyn Implementation,
+    right: &'a dyn Implementation,
     pub tally: Tally,
 }
 
 impl<'a> Pair<'a> {
-    pub fn new(left: &'a dyn Calls, right: &'a dyn Calls) -> Pair<'a> {
+    pub fn new(left: &'a dyn Implementation, right: &'a dyn Implementation) -> Pair<'a> {
         Pair { left, right, tally: Tally::default() }
     }
 
@@ -28,8 +28,8 @@ impl<'a> Pair<'a> {
     pub fn make(&mut self, lent: &mut Lent, call: Call) -> Result<Answer, Difference> {
         let before = lent.clone();
         let mut right_lent = lent.clone();
-        let answer = lent.make(self.left, call);
-        let right_answer = right_lent.make(self.right, call);
+        let answer = self.left.make(lent, call);
+        let right_answer = self.right.make(&mut right_lent, call);
         if answer != right_answer || *lent != right_lent {
             return Err(self.tell(call, &before, (answer, lent), (right_answer, &right_lent)));
         }

@@ -3,8 +3,8 @@
 use std::panic::{catch_unwind, AssertUnwindSafe};
 use std::time::{Duration, Instant};
 
-use crate::calls::Calls;
 use crate::cases;
+use crate::lent::Implementation;
 use crate::pair::{Difference, Pair};
 use crate::tally::Tally;
 
@@ -35,8 +35,8 @@ pub struct Found {
 
 /// Runs cases 0, 1, 2 and on; the first difference ends it. Each case is told before it is run.
 pub fn run(
-    left: &dyn Calls,
-    right: &dyn Calls,
+    left: &dyn Implementation,
+    right: &dyn Implementation,
     seed: u64,
     until: Until,
     mut tell: impl FnMut(u64),
@@ -54,7 +54,7 @@ pub fn run(
 }
 
 /// Runs one case alone.
-pub fn run_case(left: &dyn Calls, right: &dyn Calls, seed: u64, case: u64) -> Result<Tally, Found> {
+pub fn run_case(left: &dyn Implementation, right: &dyn Implementation, seed: u64, case: u64) -> Result<Tally, Found> {
     let mut pair = Pair::new(left, right);
     one_case(&mut pair, seed, case)?;
     Ok(pair.tally)

@@ -1,7 +1,7 @@
 //! Shows that the comparison can fail: each wrong variant has to be found, and the variant without a fault may not be.
 
-use crate::calls::Calls;
 use crate::implementations::Second;
+use crate::lent::Implementation;
 use crate::run::{run, Found, Until};
 use crate::wrong::{Fault, Wrong, FAULTS, SEEN_IN_BOTH};
 
@@ -38,6 +38,6 @@ pub fn try_each(seed: u64, until: Until, mut tell: impl FnMut(&Tried)) {
     }
 }
 
-fn agree(left: &dyn Calls, right: &dyn Calls, seed: u64, until: Until) -> Result<(), Found> {
+fn agree(left: &dyn Implementation, right: &dyn Implementation, seed: u64, until: Until) -> Result<(), Found> {
     run(left, right, seed, until, |_| ()).map(|_| ())
 }
