@@ -103,10 +103,10 @@ orNone-canon f e = go (ltb f e) refl
 
 module _ (b : Band) (y : Link) (hk : 0 < y .kernel) (hs : 0 < y .stride) where
   -- where the formula's band begins and ends
-  abbrev F : ℕ
+  abbrev pub F : ℕ
   F = (b .first + y .before + y .stride - y .kernel) / y .stride
 
-  abbrev E : ℕ
+  abbrev pub E : ℕ
   E = min (y .rows) ((b .end + y .before - 1) / y .stride + 1)
 
   divided-canon : Canon (divided b y)
@@ -153,15 +153,14 @@ module _ (b : Band) (y : Link) (hk : 0 < y .kernel) (hs : 0 < y .stride) where
       reached-in b y i (x .0) (x .1))
 
   -- what the code returns for a band that is not empty
-  module _ (l e : ℕ) (hb : b .first < b .end) (hl : l ≡ b .first + y .before + y .stride - y .kernel)
-      (he : e ≡ min (y .rows) ((b .end + y .before - 1) / y .stride + 1)) where
-    pub some-reached : l / y .stride < e → band (l / y .stride) e ≡ reachedBand b y
+  module _ (f e : ℕ) (hb : b .first < b .end) (hf : f ≡ F) (he : e ≡ E) where
+    pub some-reached : f < e → band f e ≡ reachedBand b y
     unfolding divided
-    some-reached h = rw (reached-divided, lt-ltb _ _ hb, ← hl, ← he, lt-ltb _ _ h)
+    some-reached h = rw (reached-divided, lt-ltb _ _ hb, ← hf, ← he, lt-ltb _ _ h)
 
-    pub none-reached : e ≤ l / y .stride → none ≡ reachedBand b y
+    pub none-reached : e ≤ f → none ≡ reachedBand b y
     unfolding divided
-    none-reached h = rw (reached-divided, lt-ltb _ _ hb, ← hl, ← he, le-ltb _ _ h)
+    none-reached h = rw (reached-divided, lt-ltb _ _ hb, ← hf, ← he, le-ltb _ _ h)
 
   -- so the reached band holds only rows that are reached
   pub in-reached : (i : ℕ) → In i (reachedBand b y) → (i < y .rows) × Hit b y i

@@ -33,7 +33,7 @@ pub record LinkOk (n : Network) (m : ℕ) (y : Link) : Type 0 where
   pub before-less : y .before < y .kernel
   pub kernel-some : 0 < y .kernel
   pub stride-some : 0 < y .stride
-  pub stride-few : y .stride ≤ 256
+  pub stride-few : y .stride ≤ 4
   pub rows-are : y .rows ≡ tensorOf n (suc m) .rows
   -- no window starts past the input's last row
   pub starts : (i : ℕ) → i < y .rows → i * y .stride < tensorOf n m .rows + y .before
@@ -94,7 +94,7 @@ module _ (s : List ℕ) (n : Network) (m : ℕ) (l : LayerTaken s n m (layerOf n
     before-less = ok .frame .padding-rows;
     kernel-some = ok .frame .height-some;
     stride-some = ok .frame .stride-some;
-    stride-few = omega (arith, ok .frame .stride-few);
+    stride-few = ok .frame .stride-few;
     rows-are = refl;
     starts = λ i h.
         omega (

@@ -2,5 +2,6 @@
 pub mod Added
 pub mod Finished
 pub mod Rescaled
+pub mod Shifted
 pub mod Totals
 pub mod Whole

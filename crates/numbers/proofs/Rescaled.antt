@@ -40,11 +40,11 @@ half-goes-up a m k e =
 -- ---- the second rounding
 
 -- k = halfUp a d: 2kd ≤ 2a + d
-half-low : (a d : ℕ) → 0 < d → 2 * (halfUp a d * d) ≤ 2 * a + d
+pub half-low : (a d : ℕ) → 0 < d → 2 * (halfUp a d * d) ≤ 2 * a + d
 half-low a d p = omega (arith, div-add-mod' (2 * a + d) (2 * d))
 
 -- k = halfUp a d: 2a + d < 2kd + 2d
-half-high : (a d : ℕ) → 0 < d → 2 * a + d < 2 * (halfUp a d * d) + 2 * d
+pub half-high : (a d : ℕ) → 0 < d → 2 * a + d < 2 * (halfUp a d * d) + 2 * d
 half-high a d p =
     let two : 0 < 2 * d = omega arith in
     omega (arith, div-add-mod' (2 * a + d) (2 * d), mod-lt (2 * a + d) two)
@@ -169,8 +169,8 @@ rescaled-between a m (suc n) p =
 pub rescaled-small : (a : ℤ) (m n : ℕ) → m < 2 ^ 31 → natAbs (rescaled a m n) ≤ natAbs a
 rescaled-small a m n p = omega (arith, parts a, parts (rescaled a m n), rescaled-between a m n p)
 
--- the rescaled number fits where the total does
-pub rescaled-fits : (w : Width) (a : ℤ) (m n : ℕ) → m < 2 ^ 31 → SFits w a → SFits w (rescaled a m n)
-rescaled-fits w a m n p f =
-    let between = rescaled-between a m n p in
-    fits w (itself (rescaled a m n)) (omega (arith, range w a f)) (omega (arith, range w a f))
+-- the nearest whole fits where z does
+pub nearest-fits : (w : Width) (z : ℤ) (d : ℕ) → 0 < d → SFits w z → SFits w (nearest z d)
+nearest-fits w z d p f =
+    let between = nearest-between z d p in
+    fits w (itself (nearest z d)) (omega (arith, range w z f)) (omega (arith, range w z f))

@@ -10,9 +10,9 @@ use native.Mathlib.Omega.{arith}
 use borrow.Author.Tests.{ltb-true, ltb-false}
 use lib.Dec.{T, ltb, ltb→lt, nltb→le}
 use lib.IntN.{ℤ, pos, negsuc, negℤ, natAbs, subℕ, _+ℤ_, _-ℤ_, _*ℤ_}
-use lib.Signed.{ltZ, nonNeg, quotZ, shrZ}
+use lib.Signed.{ltZ, nonNeg, shrZ}
 use mir.Syntax.{Width, w32, w64}
-use mir.Val.{Fits, SFits, bits, hbits, ofZ, toZ}
+use mir.Val.{Fits, SFits, bits, boolByte, hbits, ofZ, toZ}
 use mir.ValLaws.{toZ-ofZ, toZ-pos}
 
 -- z is `up z` less `down z`, and one of the two is 0
@@ -171,15 +171,15 @@ kept w {x} {a} {b} f h = subst⁻¹ (λ z. z ≐ a ⊖ b) (toZ-ofZ w x f) h
 pub unsigned : (w : Width) (n : ℕ) → n < 2 ^ hbits w → toZ w n ≐ n ⊖ 0
 unsigned w n p = subst⁻¹ (λ z. z ≐ n ⊖ 0) (toZ-pos w n p) (nat n)
 
+-- a test that is cast to a signed type
+pub flag : (t : Bool) → (toZ w32 (boolByte t) ≡ pos (boolByte t)) × (boolByte t ≤ 1)
+flag true = (refl, omega arith)
+flag false = (refl, omega arith)
+
 -- what the cast of a number that is not negative to an unsigned type asks
 pub natural : (w : Width) {x : ℤ} {a b : ℕ} → x ≐ a ⊖ b → b ≤ a → a < b + 2 ^ bits w → T (nonNeg x) × Fits w (natAbs x)
 natural w {x = pos n} h p q = (tt, record { fits = omega arith })
 natural w {x = negsuc n} h p q = absurd (omega arith)
-
--- the quotient of a number that is not negative
-pub quotient : {x : ℤ} {a b : ℕ} (d : ℕ) → x ≐ a ⊖ b → b ≤ a → quotZ x (pos d) ≐ (a - b) / d ⊖ 0
-quotient {x = pos n} {a} {b} d h p = let e : n ≡ a - b = omega arith in record { is = omega (arith, ap (λ k. k / d) e) }
-quotient {x = negsuc n} d h p = absurd (omega arith)
 
 -- an i32 that is cast to an i64 fits
 pub widens : (z : ℤ) → SFits w32 z → SFits w64 (toZ w32 (ofZ w32 z))

@@ -5,4 +5,5 @@ pub mod finish;
 pub mod limits;
 pub mod rescale;
 pub mod small;
+pub mod stride;
 pub mod total;

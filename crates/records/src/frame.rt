@@ -8,6 +8,7 @@ use fields::faults::kernel_fault;
 use fields::faults::padding_fault;
 use fields::faults::stride_fault;
 use fields::shape::Shape;
+use numbers::stride::strides_in;
 
 // Kernel rows are `height` and kernel columns `width`.
 pub struct Frame {
@@ -51,8 +52,8 @@ pub fn frame_output(f: Frame, input: Shape, channels: u8) -> Shape
     let twice = 2 * f.padding as usize;
     let stride = f.stride as usize;
     Shape {
-        rows: (input.rows + twice - f.height as usize) / stride + 1,
-        columns: (input.columns + twice - f.width as usize) / stride + 1,
+        rows: strides_in(input.rows + twice - f.height as usize, stride) + 1,
+        columns: strides_in(input.columns + twice - f.width as usize, stride) + 1,
         channels: channels as usize,
     }
 }

@@ -48,7 +48,7 @@ module _ {file : List ℕ} {n : Network} {sums : List ℕ} (area : List ℕ) (m 
       BandsWithin n s →
       link ≡ linkOf n m →
       ((m < 16) × (link .other ≤ m) × (bandOf s m .end ≤ 16384) × (bandOf s (link .other) .end ≤ 16384)) ×
-      ((link .before ≤ 256) × (0 < link .kernel) × (0 < link .stride) × (link .stride ≤ 256))
+      ((link .before ≤ 256) × (0 < link .kernel) × (0 < link .stride) × (link .stride ≤ 4))
   grow-needs s f e =
       let t = can .taken in
       let y = link-ok file n t m h in

@@ -1,9 +1,9 @@
--- `bands::reach::reached` meets its contract: the two divisions give the band of the rule. Assumes nothing.
-use Prim.Native.Nat.{_+_, _-_}
-use mathlib.Core.Path.{sym}
+-- `bands::reach::reached` meets its contract: the two quotients give the band of the rule. Assumes nothing.
+use Prim.Native.Nat.{_+_, _-_, _/_, min}
+use mathlib.Core.Path.{_≡_, sym, ap, _∙_}
 use native.Mathlib.Omega.{arith}
 use native.Mathlib.Nat.{div-le-self}
-use Rattle.bands.proofs.Reached.{some-reached, none-reached, reached-empty}
+use Rattle.bands.proofs.Reached.{F, E, some-reached, none-reached, reached-empty}
 use borrow.Author.Needs.{needs}
 use Rattle.bands.proofs.reach.reached.Statement.{statement}
 use Rattle.bands.proofs.reach.reached.Tie as tie
@@ -29,28 +29,29 @@ cast-less-2 c = search needs
 less-requires : tie.Need-less-requires
 less-requires c κs = search needs
 
-div-first : tie.Need-div-first
-div-first c = search needs
+strides-in-requires : tie.Need-strides-in-requires
+strides-in-requires c κs = search needs
+
+cast-strides-in : tie.Need-cast-strides-in
+cast-strides-in c = search needs
+
+add-strides-in : tie.Need-add-strides-in
+add-strides-in c = search needs
+
+sub-strides-in : tie.Need-sub-strides-in
+sub-strides-in c = search needs
+
+strides-in-requires-2 : tie.Need-strides-in-requires-2
+strides-in-requires-2 c κs = search needs
 
 cast-smaller : tie.Need-cast-smaller
 cast-smaller c = search needs
 
-cast-smaller-2 : tie.Need-cast-smaller-2
-cast-smaller-2 c = search needs
-
 add-smaller : tie.Need-add-smaller
-add-smaller c = search needs
-
-sub-smaller : tie.Need-sub-smaller
-sub-smaller c = search needs
-
-div-smaller : tie.Need-div-smaller
-div-smaller c = search needs
-
-add-smaller-2 : tie.Need-add-smaller-2
-add-smaller-2 c =
-    let a = c .before .before .before .before .before .before .before .before .before in
-    record { fits = omega (arith, div-le-self (a .args .b .end + a .args .y .before - 1) (a .args .y .stride)) }
+add-smaller c =
+    let s = c .before .before .before .before .before .before .before .before .before .before .before in
+    let ends = c .before .strides-in2 .ensures in
+    record { fits = omega (arith, div-le-self (s .args .b .end + s .args .y .before - 1) (s .args .y .stride)) }
 
 smaller-requires : tie.Need-smaller-requires
 smaller-requires c κs = search needs
@@ -61,19 +62,38 @@ cast-t15 c = search needs
 cast-t16 : tie.Need-cast-t16
 cast-t16 c = search needs
 
+-- the places of the calls and of the test before them
+abbrev after-less : tie.After-smaller → tie.After-less
+after-less c = c .before .before .before .before .before
+
+abbrev then : tie.After-smaller → tie.Then1
+then c = after-less c .before .before .before .before .before
+
+abbrev start : tie.After-smaller → tie.Start
+start c = then c .before .before
+
+-- where the band begins and ends, as the code works it out
+first :
+    (c : tie.After-smaller) →
+    let s = start c in
+    c .before .before .before .before .strides-in .result ≡ F (s .args .b) (s .args .y) (s .pre .2) (s .pre .3)
+first c = c .before .before .before .before .strides-in .ensures ∙ ap (λ l. l / start c .args .y .stride) (after-less c .less .ensures)
+
+end :
+    (c : tie.After-smaller) →
+    let s = start c in
+    c .smaller .result ≡ E (s .args .b) (s .args .y) (s .pre .2) (s .pre .3)
+end c = c .smaller .ensures ∙ ap (λ l. min (start c .args .y .rows) (l + 1)) (c .before .before .strides-in2 .ensures)
+
 returns : tie.Need-returns
 returns c =
-    let l = c .before .before .before .before in
-    let t = l .before .before .before .before .before in
-    let a = t .before .before in
-    some-reached (a .args .b) (a .args .y) (a .pre .2) (a .pre .3) _ _ (t .if1 .taken) (l .less .ensures) (c .before .smaller .ensures) (c .if2 .taken)
+    let s = start (c .before) in
+    some-reached (s .args .b) (s .args .y) (s .pre .2) (s .pre .3) _ _ (then (c .before) .if1 .taken) (first (c .before)) (end (c .before)) (c .if2 .taken)
 
 returns-2 : tie.Need-returns-2
 returns-2 c =
-    let l = c .before .before .before .before in
-    let t = l .before .before .before .before .before in
-    let a = t .before .before in
-    none-reached (a .args .b) (a .args .y) (a .pre .2) (a .pre .3) _ _ (t .if1 .taken) (l .less .ensures) (c .before .smaller .ensures) (c .if2 .left)
+    let s = start (c .before) in
+    none-reached (s .args .b) (s .args .y) (s .pre .2) (s .pre .3) _ _ (then (c .before) .if1 .taken) (first (c .before)) (end (c .before)) (c .if2 .left)
 
 returns-3 : tie.Need-returns-3
 returns-3 c = sym (reached-empty (c .before .before .args .b) (c .before .before .args .y) (c .if1 .left))
@@ -89,13 +109,13 @@ reached-spec =
     add-less-2
     cast-less-2
     less-requires
-    div-first
+    strides-in-requires
+    cast-strides-in
+    add-strides-in
+    sub-strides-in
+    strides-in-requires-2
     cast-smaller
-    cast-smaller-2
     add-smaller
-    sub-smaller
-    div-smaller
-    add-smaller-2
     smaller-requires
     cast-t15
     cast-t16

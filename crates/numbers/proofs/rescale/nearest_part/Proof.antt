@@ -1,120 +1,116 @@
--- `numbers::rescale::nearest_part` meets its contract: the size of z is rounded, and gets z's sign back.
+-- `numbers::rescale::nearest_part` meets its contract: each number is the one that `Shifted` has, and the last is the nearest whole.
 -- Assumes nothing.
-use mathlib.Core.Path.{_≡_, _∙_, ap₂}
-use Prim.Native.Nat.{_^_, _<_, _≤_}
+use mathlib.Core.Path.{_≡_, refl, _∙_, ap, subst⁻¹}
+use mathlib.Core.Bool.{Bool}
+use Prim.Native.Nat.{ℕ, _-_, _*_, _/_, _%_, _^_, _<_, _≤_}
 use native.Mathlib.Omega.{arith}
-use borrow.Author.Needs.{needs}
-use lib.IntN.{pos, natAbs, _-ℤ_}
-use lib.Pow.{pow-pos, pow-lt}
-use mir.Syntax.{w64}
-use mir.Val.{toZ, ofZ}
-use Rattle.numbers.specs.Rescale.{halfUp}
-use Rattle.numbers.proofs.Whole.{up, down, _≐_⊖_, itself, nat, again, less, equal, fits, natural, size, under, not-under, kept, unsigned}
-use Rattle.numbers.proofs.Rescaled.{half-small, nearest-above, nearest-below}
+use borrow.Author.Needs.{needs, sfits-of}
+use lib.Bits.{bitAnd}
+use lib.Dec.{lit<}
+use lib.IntN.{ℤ, pos, _+ℤ_}
+use lib.Pow.{pow-pos, pow-mono, shl-exact}
+use lib.Signed.{ltZ, shrZ}
+use mir.Syntax.{w32}
+use mir.Val.{SFits, toZ, ofZ, boolByte}
+use mir.ValLaws.{toZ-ofZ, toZ-pos}
+use Rattle.numbers.specs.Rescale.{floor, nearest}
+use Rattle.numbers.proofs.Whole.{flag}
+use Rattle.numbers.proofs.Rescaled.{nearest-fits}
+use Rattle.numbers.proofs.Shifted.{rest, rest-few, most, above, floor-fits, nearest-shifted}
 use Rattle.numbers.proofs.rescale.nearest_part.Statement.{statement}
 use Rattle.numbers.proofs.rescale.nearest_part.Tie as tie
 
-shl-d : tie.Need-shl-d
-shl-d c = search needs
+-- 2^shift as the machine makes it
+step : (s : tie.Start) → 1 * 2 ^ s .args .shift % 2 ^ 32 ≡ 2 ^ s .args .shift
+step s = omega (arith, shl-exact {a = 1} 1 (s .args .shift) 32 (lit< tt) (omega (arith, s .pre)))
 
--- the step, 2^shift, is in range
-step : (s : tie.Start) → (0 < 2 ^ s .args .shift) × (2 ^ s .args .shift < 2 ^ 32)
-step s = (pow-pos (s .args .shift), pow-lt (s .pre .1))
+bound : (s : tie.Start) → (0 < 2 ^ s .args .shift) × (2 ^ s .args .shift ≤ 2 ^ 31)
+bound s = (pow-pos (s .args .shift), pow-mono {j = 31} (omega (arith, s .pre)))
 
--- z as the machine has it
-given : (s : tie.Start) → toZ w64 (ofZ w64 (s .args .z)) ≐ up (s .args .z) ⊖ down (s .args .z)
-given s = kept w64 (s .fits .z) (itself (s .args .z))
+given : (s : tie.Start) → toZ w32 (ofZ w32 (s .args .z)) ≡ s .args .z
+given s = toZ-ofZ w32 (s .args .z) (s .fits .z)
 
--- what the rounding gives is no larger than z
-small : (s : tie.Start) → halfUp (natAbs (s .args .z)) (2 ^ s .args .shift) ≤ 2 ^ 31
-small s = omega (arith, half-small (natAbs (s .args .z)) (2 ^ s .args .shift) (pow-pos (s .args .shift)))
+shl-mask : tie.Need-shl-mask
+shl-mask c = omega (arith, c .pre)
 
--- ---- where z is below 0
+sub-mask : tie.Need-sub-mask
+sub-mask c = omega (arith, step c, bound c)
 
-is-below : (c : tie.Then1) → up (c .before .args .z) < down (c .before .args .z)
-is-below c = omega (arith, under (given (c .before)) (nat 0) (c .if1 .taken))
+cast-mask : tie.Need-cast-mask
+cast-mask c = record { sfits = omega (arith, step c, bound c) }
 
-minus : (c : tie.Then1) → pos 0 -ℤ toZ w64 (ofZ w64 (c .before .args .z)) ≐ down (c .before .args .z) ⊖ up (c .before .args .z)
-minus c = again _ _ (less (nat 0) (given (c .before))) (omega arith)
+below-zero-requires : tie.Need-below-zero-requires
+below-zero-requires c κs = search needs
 
-sub-half-up : tie.Need-sub-half-up
-sub-half-up c = fits w64 (minus c) (omega (arith, size (itself (c .before .args .z)))) (omega (arith, is-below c))
+abbrev mask : tie.Start → ℕ
+mask s = 1 * 2 ^ s .args .shift % 2 ^ 32 - 1
 
-cast-half-up : tie.Need-cast-half-up
-cast-half-up c =
-    natural w64 (kept w64 (sub-half-up c) (minus c)) (omega (arith, is-below c))
-    (omega (arith, size (itself (c .before .args .z))))
+-- whether z is below zero
+abbrev below : tie.Start → Bool
+below s = ltZ (s .args .z) (pos 0)
 
--- the size of −z is that of z
-same :
-    (c : tie.Then1) →
-    natAbs (toZ w64 (ofZ w64 (pos 0 -ℤ toZ w64 (ofZ w64 (c .before .args .z))))) ≡ natAbs (c .before .args .z)
-same c = omega (arith, size (kept w64 (sub-half-up c) (minus c)), size (itself (c .before .args .z)))
+-- the largest rest that adds nothing
+abbrev limit : tie.After-below-zero → ℤ
+limit c = toZ w32 (ofZ w32 (shrZ (toZ w32 (mask (c .before))) 2)) +ℤ toZ w32 (ofZ w32 (c .below-zero .result))
 
-half-up-requires : tie.Need-half-up-requires
-half-up-requires c κs = (omega (arith, same c), omega (arith, step (c .before)))
+limit-is : (c : tie.After-below-zero) → limit c ≡ pos (most (below (c .before)) (c .before .args .shift))
+limit-is c =
+    let s = c .before in
+    let d = 2 ^ s .args .shift in
+    rw (
+      step s,
+      toZ-pos w32 (d - 1) (omega (arith, bound s)),
+      toZ-pos w32 ((d - 1) / 2) (omega (arith, bound s)),
+      toZ-ofZ w32 (c .below-zero .result) (sfits-of (c .below-zero .ok)),
+      c .below-zero .ensures,
+      given s,
+    ) refl
 
-half :
-    (c : tie.After-half-up) →
-    c .half-up .result ≡ halfUp (natAbs (c .before .before .args .z)) (2 ^ c .before .before .args .shift)
-half c = c .half-up .ensures ∙ ap₂ halfUp (same (c .before)) (omega (arith, step (c .before .before)))
+add-most : tie.Need-add-most
+add-most c =
+    let s = c .before in
+    subst⁻¹ (SFits w32) (limit-is c) (record { sfits = omega (arith, bound s, flag (below s) .1) })
 
 cast-result : tie.Need-cast-result
-cast-result c = fits w64 (nat (c .half-up .result)) (omega (arith, half c, small (c .before .before))) (omega arith)
+cast-result c = record { sfits = omega (arith, c .before .pre) }
 
-minus-half : (c : tie.After-half-up) → pos 0 -ℤ toZ w64 (c .half-up .result) ≐ 0 ⊖ c .half-up .result
-minus-half c = again _ _ (less (nat 0) (unsigned w64 (c .half-up .result) (cast-result c .sfits))) (omega arith)
-
-sub-result : tie.Need-sub-result
-sub-result c = fits w64 (minus-half c) (omega arith) (omega (arith, half c, small (c .before .before)))
-
-returns : tie.Need-returns
-returns c =
-    let s = c .before .before in
-    equal (kept w64 (sub-result c) (minus-half c)) (nearest-below (s .args .z) (2 ^ s .args .shift) (is-below (c .before)))
-    (omega (arith, half c))
-
--- ---- where it is not
-
-is-above : (c : tie.Else1) → down (c .before .args .z) ≤ up (c .before .args .z)
-is-above c = omega (arith, not-under (given (c .before)) (nat 0) (c .if1 .left))
-
-cast-half-up-2 : tie.Need-cast-half-up-2
-cast-half-up-2 c = natural w64 (given (c .before)) (is-above c) (omega (arith, size (itself (c .before .args .z))))
-
-same2 : (s : tie.Start) → natAbs (toZ w64 (ofZ w64 (s .args .z))) ≡ natAbs (s .args .z)
-same2 s = omega (arith, size (given s), size (itself (s .args .z)))
-
-half-up-requires-2 : tie.Need-half-up-requires-2
-half-up-requires-2 c κs = (omega (arith, same2 (c .before)), omega (arith, step (c .before)))
-
-half2 :
-    (c : tie.After-half-up2) →
-    c .half-up2 .result ≡ halfUp (natAbs (c .before .before .args .z)) (2 ^ c .before .before .args .shift)
-half2 c = c .half-up2 .ensures ∙ ap₂ halfUp (same2 (c .before .before)) (omega (arith, step (c .before .before)))
+shr-result : tie.Need-shr-result
+shr-result c = omega (arith, c .before .pre)
 
 cast-result-2 : tie.Need-cast-result-2
-cast-result-2 c = fits w64 (nat (c .half-up2 .result)) (omega (arith, half2 c, small (c .before .before))) (omega arith)
+cast-result-2 c = search needs
 
-returns-2 : tie.Need-returns-2
-returns-2 c =
-    let s = c .before .before in
-    equal (unsigned w64 (c .half-up2 .result) (cast-result-2 c .sfits))
-    (nearest-above (s .args .z) (2 ^ s .args .shift) (is-above (c .before)))
-    (omega (arith, half2 c))
+-- the floor, and one more where the rest is above
+abbrev sum : tie.After-below-zero → ℤ
+sum c =
+    let s = c .before in
+    toZ w32 (ofZ w32 (shrZ (toZ w32 (ofZ w32 (s .args .z))) (2 ^ s .args .shift))) +ℤ
+    toZ w32 (boolByte (ltZ (toZ w32 (ofZ w32 (limit c))) (toZ w32 (bitAnd (ofZ w32 (s .args .z)) (mask s)))))
+
+sum-is : (c : tie.After-below-zero) → sum c ≡ nearest (c .before .args .z) (2 ^ c .before .args .shift)
+sum-is c =
+    let s = c .before in
+    let n = s .args .shift in
+    let z = s .args .z in
+    rw (
+      toZ-ofZ w32 (limit c) (add-most c),
+      limit-is c,
+      step s,
+      given s,
+      toZ-ofZ w32 (floor z (2 ^ n)) (floor-fits z n (s .fits .z)),
+      toZ-pos w32 (rest z n) (omega (arith, rest-few z n, bound s)),
+      flag (above (below s) z n) .0,
+    ) (nearest-shifted z n (omega (arith, s .pre)) (s .fits .z))
+
+add-result : tie.Need-add-result
+add-result c =
+    let s = c .before in
+    subst⁻¹ (SFits w32) (sum-is c) (nearest-fits w32 (s .args .z) (2 ^ s .args .shift) (bound s .0) (s .fits .z))
+
+returns : tie.Need-returns
+returns c = toZ-ofZ w32 (sum c) (add-result c) ∙ sum-is c
 
 pub nearest-part-spec : {M : Type 1} → statement M
 nearest-part-spec =
     tie.close
-    (tie.spec
-    shl-d
-    sub-half-up
-    cast-half-up
-    half-up-requires
-    cast-result
-    sub-result
-    cast-half-up-2
-    half-up-requires-2
-    cast-result-2
-    returns
-    returns-2)
+    (tie.spec shl-mask sub-mask cast-mask below-zero-requires add-most cast-result shr-result cast-result-2 add-result returns)

@@ -1,9 +1,11 @@
 -- `records::frame::frame_output` meets its contract.
 -- Assumes nothing.
-use Prim.Native.Nat.{_+_, _-_, _*_}
-use mathlib.Core.Path.{refl}
+use Prim.Native.Nat.{ℕ, _+_, _-_, _*_}
+use mathlib.Core.Path.{_≡_, ap₂, subst⁻¹}
 use native.Mathlib.Omega.{arith}
 use native.Mathlib.Nat.{div-le-self}
+use Rattle.fields.specs.Asked.{SmallShape}
+use Rattle.fields.specs.declared.shape.Shape.{Shape}
 use Rattle.records.specs.Frame.{frameOutput}
 use Rattle.records.proofs.Frames.{frame-small}
 use borrow.Author.Needs.{needs}
@@ -19,39 +21,62 @@ mul-twice c = search needs
 cast-stride : tie.Need-cast-stride
 cast-stride c = search needs
 
-add-t6 : tie.Need-add-t6
-add-t6 c = search needs
+add-strides-in : tie.Need-add-strides-in
+add-strides-in c = search needs
 
-cast-t7 : tie.Need-cast-t7
-cast-t7 c = search needs
+cast-strides-in : tie.Need-cast-strides-in
+cast-strides-in c = search needs
 
-sub-t8 : tie.Need-sub-t8
-sub-t8 c = search needs
+sub-strides-in : tie.Need-sub-strides-in
+sub-strides-in c = search needs
 
-div-t9 : tie.Need-div-t9
-div-t9 c = search needs
+strides-in-requires : tie.Need-strides-in-requires
+strides-in-requires c κs = search needs
 
 add-t10 : tie.Need-add-t10
-add-t10 c = omega (arith, div-le-self (c .before .before .before .before .args .input .rows + 2 * c .before .before .before .before .args .f .padding - c .before .before .before .before .args .f .height) (c .before .before .before .before .args .f .stride))
+add-t10 c =
+    let s = c .before .before .before .before .before in
+    let rows = c .strides-in .ensures in
+    omega (arith, div-le-self (s .args .input .rows + 2 * s .args .f .padding - s .args .f .height) (s .args .f .stride))
 
-add-t11 : tie.Need-add-t11
-add-t11 c = search needs
+add-strides-in-2 : tie.Need-add-strides-in-2
+add-strides-in-2 c = search needs
 
-cast-t12 : tie.Need-cast-t12
-cast-t12 c = search needs
+cast-strides-in-2 : tie.Need-cast-strides-in-2
+cast-strides-in-2 c = search needs
 
-sub-t13 : tie.Need-sub-t13
-sub-t13 c = search needs
+sub-strides-in-2 : tie.Need-sub-strides-in-2
+sub-strides-in-2 c = search needs
 
-div-t14 : tie.Need-div-t14
-div-t14 c = search needs
+strides-in-requires-2 : tie.Need-strides-in-requires-2
+strides-in-requires-2 c κs = search needs
+
+abbrev start : tie.After-strides-in2 → tie.Start
+start c = c .before .before .before .before .before .before .before .before
 
 add-t15 : tie.Need-add-t15
-add-t15 c = omega (arith, div-le-self (c .before .before .before .before .before .before .args .input .columns + 2 * c .before .before .before .before .before .before .args .f .padding - c .before .before .before .before .before .before .args .f .width) (c .before .before .before .before .before .before .args .f .stride))
+add-t15 c =
+    let s = start c in
+    let columns = c .strides-in2 .ensures in
+    omega (arith, div-le-self (s .args .input .columns + 2 * s .args .f .padding - s .args .f .width) (s .args .f .stride))
+
+-- the shape that the code makes of the strides in both sides
+abbrev shape : ℕ → ℕ → ℕ → Shape
+shape channels down across = record { rows = down + 1; columns = across + 1; channels = channels }
+
+shape-is :
+    (c : tie.After-strides-in2) →
+    let s = start c in
+    shape (s .args .channels) (c .before .before .before .strides-in .result) (c .strides-in2 .result) ≡
+    frameOutput (s .args .f) (s .args .input) (s .args .channels)
+unfolding frameOutput
+shape-is c = ap₂ (shape (start c .args .channels)) (c .before .before .before .strides-in .ensures) (c .strides-in2 .ensures)
 
 returns : tie.Need-returns
-unfolding frameOutput
-returns c = (refl, frame-small (c .before .before .before .before .before .before .args .f) (c .before .before .before .before .before .before .args .input) (c .before .before .before .before .before .before .args .channels) (c .before .before .before .before .before .before .pre .0) (c .before .before .before .before .before .before .pre .1 .0) (omega arith))
+returns c =
+    let s = start c in
+    let small = frame-small (s .args .f) (s .args .input) (s .args .channels) (s .pre .0) (s .pre .1 .0) (omega arith) in
+    (shape-is c, subst⁻¹ SmallShape (shape-is c) small)
 
 pub frame-output-spec : {M : Type 1} → statement M
 frame-output-spec =
@@ -60,14 +85,14 @@ frame-output-spec =
     cast-twice
     mul-twice
     cast-stride
-    add-t6
-    cast-t7
-    sub-t8
-    div-t9
+    add-strides-in
+    cast-strides-in
+    sub-strides-in
+    strides-in-requires
     add-t10
-    add-t11
-    cast-t12
-    sub-t13
-    div-t14
+    add-strides-in-2
+    cast-strides-in-2
+    sub-strides-in-2
+    strides-in-requires-2
     add-t15
     returns)
