@@ -1,20 +1,31 @@
 //! Prints the tables of docs/SPEED.md, and draws its plot to the file that is named. All figures are of this one run; the
-//! buffers are not cleared between calls.
+//! buffers are not cleared between calls. `--beside PROGRAM` prints instead what changed since PROGRAM, an earlier build.
 
 mod measure;
 mod networks;
 mod plain;
 mod plot;
+mod turns;
 
 use measure::{best, Kept};
 use networks::Sample;
 
 fn main() -> std::io::Result<()> {
+    let words: Vec<_> = std::env::args_os().skip(1).collect();
+    match words.as_slice() {
+        [word] if word == "--times" => turns::times(),
+        [word, program] if word == "--beside" => turns::beside(program.as_ref(), &std::env::current_exe()?)?,
+        _ => tables(words.first())?,
+    }
+    Ok(())
+}
+
+fn tables(plot: Option<&std::ffi::OsString>) -> std::io::Result<()> {
     single_layers();
     whole_networks();
     let points = growth(&networks::whole_networks()[2]);
     tests_alone();
-    match std::env::args_os().nth(1) {
+    match plot {
         Some(path) => std::fs::write(path, plot::drawn(&points)),
         None => Ok(()),
     }

@@ -68,7 +68,7 @@ fn network(name: &'static str, (rows, columns, channels): (usize, usize, usize),
 
 /// The shapes of a row's work, a layer each.
 pub fn single_layers() -> Vec<Sample> {
-    use Of::{Conv, Full};
+    use Of::{Add, Conv, Full};
     vec![
         network("16 × 16 × 32, 3 × 3, 32 filters", (16, 16, 32), &[Conv(32, 3, 1, 1)]),
         network("32 × 32 × 16, 3 × 3, 16 filters", (32, 32, 16), &[Conv(16, 3, 1, 1)]),
@@ -76,6 +76,7 @@ pub fn single_layers() -> Vec<Sample> {
         network("64 × 64 × 3, 5 × 5, stride 2, 8 filters", (64, 64, 3), &[Conv(8, 5, 2, 2)]),
         network("16 × 16 × 64, 1 × 1, 64 filters", (16, 16, 64), &[Conv(64, 1, 1, 0)]),
         network("full, 4096 to 12", (16, 16, 16), &[Full(12)]),
+        network("add, 32 × 32 × 16, with itself", (32, 32, 16), &[Add(0)]),
     ]
 }
 

@@ -56,6 +56,12 @@ impl Wrong {
                 Some(Fault::ReachWithoutPadding) => conv.padding = 0,
                 Some(Fault::ReachOneRowShort) => conv.kernel_rows = (conv.kernel_rows - 1).max(1),
                 Some(Fault::ReachStrideIgnored) => conv.stride = 1,
+                Some(Fault::ReachThirdRoundedDown) if conv.stride == 3 && band.first < band.end => {
+                    let third = |length: usize| (length * ((1 << 17) / 3)) >> 17;
+                    let first = third((band.first + conv.padding + 3).saturating_sub(conv.kernel_rows));
+                    let end = third(band.end + conv.padding - 1) + 1;
+                    return (first..end.min(layer.output.rows)).collect();
+                }
                 _ => {}
             },
             Kind::Full(_) if self.has(Fault::FullReachedByFirstRow) && band.first > 0 => return Vec::new(),

@@ -119,11 +119,13 @@ impl Wrong {
         let h = match self.fault {
             Some(Fault::FirstHalfAwayFromZero) => nearest_half_away_from_zero(product, 1 << 31),
             Some(Fault::FirstCutTowardsZero) => (product + (1 << 30)) / (1 << 31),
+            Some(Fault::FirstHalfDown) => floor_of_quotient(product + (1 << 30) - 1, 1 << 31),
             _ => floor_of_quotient(product + (1 << 30), 1 << 31),
         };
         let divisor = 1 << n;
         match self.fault {
             Some(Fault::SecondHalfUp) => floor_of_quotient(2 * h + divisor, 2 * divisor),
+            Some(Fault::SecondHalfTowardsZero) => h.signum() * ((2 * h.abs() + divisor - 1) / (2 * divisor)),
             Some(Fault::SecondRoundingWraps) if n > 0 => i128::from((h as i32).wrapping_add(1 << (n - 1)) >> n),
             Some(Fault::SecondFloor) => floor_of_quotient(h, divisor),
             _ => nearest_half_away_from_zero(h, divisor),
