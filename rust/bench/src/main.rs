@@ -13,14 +13,21 @@ use networks::Sample;
 fn main() -> std::io::Result<()> {
     let words: Vec<_> = std::env::args_os().skip(1).collect();
     match words.as_slice() {
-        [word] if word == "--times" => turns::times(),
-        [word, program] if word == "--beside" => turns::beside(program.as_ref(), &std::env::current_exe()?)?,
-        _ => tables(words.first())?,
+        [] => tables(None),
+        [word] if word == "--times" => {
+            turns::times();
+            Ok(())
+        }
+        [word, program] if word == "--beside" => turns::beside(program.as_ref(), &std::env::current_exe()?),
+        [plot] if !plot.to_string_lossy().starts_with('-') => tables(Some(plot.as_ref())),
+        _ => {
+            eprintln!("bench [PLOT | --beside PROGRAM | --times]");
+            std::process::exit(2)
+        }
     }
-    Ok(())
 }
 
-fn tables(plot: Option<&std::ffi::OsString>) -> std::io::Result<()> {
+fn tables(plot: Option<&std::path::Path>) -> std::io::Result<()> {
     single_layers();
     whole_networks();
     let points = growth(&networks::whole_networks()[2]);

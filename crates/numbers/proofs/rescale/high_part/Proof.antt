@@ -51,32 +51,33 @@ sum-is c k = again _ _ (plus (kept w64 (mul-result c) (product-is c)) (nat k)) (
 add-result : tie.Need-add-result
 add-result c = fits w64 (sum-is c _) (omega (arith, bounds c)) (omega (arith, bounds c))
 
--- the shift's number: 2^62 more leaves nothing negative, and the quotient is 2^31 more
+-- the floor of such a sum: 2^62 more leaves nothing negative, and the quotient is 2^31 more
 abbrev raised : tie.Start → ℕ → ℕ
 raised c k = plus-part c + k + 2 ^ 62 - minus-part c
 
+floor-is : (c : tie.Start) (k : ℕ) {x : ℤ} → x ≐ plus-part c + k ⊖ minus-part c → shrZ x (2 ^ 31) ≐ raised c k / 2 ^ 31 ⊖ 2 ^ 31
+floor-is c k e = floored (2 ^ 31) (2 ^ 31) (lit< tt) (again (raised c k) (2 ^ 31 * 2 ^ 31) e (omega (arith, bounds c)))
+
+-- what the shift leaves of the machine's
 shifted :
     (c : tie.Start) (k : ℕ) →
     SFits w64 (sum c k) →
-    shrZ (toZ w64 (ofZ w64 (sum c k))) (2 ^ 31) ≐ raised c k / 2 ^ 31 ⊖ 2 ^ 31
-shifted c k f =
-    floored (2 ^ 31) (2 ^ 31) (lit< tt) (again (raised c k) (2 ^ 31 * 2 ^ 31) (kept w64 f (sum-is c k)) (omega (arith, bounds c)))
-
-shifted-fits : (c : tie.Start) (k : ℕ) → SFits w64 (sum c k) → k < 2 ^ 31 → SFits w64 (shrZ (toZ w64 (ofZ w64 (sum c k))) (2 ^ 31))
-shifted-fits c k f p = fits w64 (shifted c k f) (omega (arith, bounds c)) (omega arith)
+    k < 2 ^ 31 →
+    toZ w64 (ofZ w64 (shrZ (toZ w64 (ofZ w64 (sum c k))) (2 ^ 31))) ≐ raised c k / 2 ^ 31 ⊖ 2 ^ 31
+shifted c k f p =
+    let quotient = floor-is c k (kept w64 f (sum-is c k)) in
+    kept w64 (fits w64 quotient (omega (arith, bounds c)) (omega arith)) quotient
 
 cast-result-3 : tie.Need-cast-result-3
-cast-result-3 c =
-    fits w32 (kept w64 (shifted-fits c _ (add-result c) (lit< tt)) (shifted c _ (add-result c)))
-    (omega (arith, bounds c)) (omega (arith, bounds c))
+cast-result-3 c = fits w32 (shifted c _ (add-result c) (lit< tt)) (omega (arith, bounds c)) (omega (arith, bounds c))
+
+-- the definition's sum
+exact : (c : tie.Start) → c .args .total *ℤ pos (c .args .multiplier) +ℤ pos (2 ^ 30) ≐ plus-part c + 2 ^ 30 ⊖ minus-part c
+exact c = again _ _ (plus (times (itself (c .args .total)) (nat (c .args .multiplier))) (nat (2 ^ 30))) (omega arith)
 
 returns : tie.Need-returns
 returns c =
-    let exact = plus (times (itself (c .args .total)) (nat (c .args .multiplier))) (nat (2 ^ 30)) in
-    equal
-    (kept w32 (cast-result-3 c) (kept w64 (shifted-fits c _ (add-result c) (lit< tt)) (shifted c _ (add-result c))))
-    (floored (2 ^ 31) (2 ^ 31) (lit< tt) (again (raised c (2 ^ 30)) (2 ^ 31 * 2 ^ 31) exact (omega (arith, bounds c))))
-    (omega arith)
+    equal (kept w32 (cast-result-3 c) (shifted c _ (add-result c) (lit< tt))) (floor-is c (2 ^ 30) (exact c)) (omega arith)
 
 pub high-part-spec : {M : Type 1} → statement M
 high-part-spec = tie.close (tie.spec cast-result cast-result-2 mul-result add-result cast-result-3 returns)

@@ -27,12 +27,16 @@ cast-result c = search needs
 inverse-requires : tie.Need-inverse-requires
 inverse-requires c κs = search needs
 
+exact :
+    (c : tie.After-inverse) →
+    let s = c .before in
+    (inverse (s .args .stride) ≤ 2 ^ 17) × (s .args .length * inverse (s .args .stride) / 2 ^ 17 ≡ s .args .length / s .args .stride)
+exact c = let s = c .before in by-inverse (s .args .length) (s .args .stride) (s .pre .0) (s .pre .1) (s .pre .2)
+
 product : (c : tie.After-inverse) → c .before .args .length * c .inverse .result ≤ (2 ^ 15 - 1) * 2 ^ 17
 product c =
-    let s = c .before in
-    let exact = by-inverse (s .args .length) (s .args .stride) (s .pre .0) (s .pre .1) (s .pre .2) in
-    let short : s .args .length ≤ 2 ^ 15 - 1 = omega (arith, s .pre .0) in
-    let few : c .inverse .result ≤ 2 ^ 17 = omega (arith, exact .0, c .inverse .ensures) in
+    let short : c .before .args .length ≤ 2 ^ 15 - 1 = omega (arith, c .before .pre .0) in
+    let few : c .inverse .result ≤ 2 ^ 17 = omega (arith, exact c .0, c .inverse .ensures) in
     mul-le-mul short few
 
 mul-result : tie.Need-mul-result
@@ -42,10 +46,7 @@ cast-result-2 : tie.Need-cast-result-2
 cast-result-2 c = record { fits = omega (arith, product c) }
 
 returns : tie.Need-returns
-returns c =
-    let s = c .before in
-    ap (λ k. s .args .length * k / 2 ^ 17) (c .inverse .ensures) ∙
-    by-inverse (s .args .length) (s .args .stride) (s .pre .0) (s .pre .1) (s .pre .2) .1
+returns c = ap (λ k. c .before .args .length * k / 2 ^ 17) (c .inverse .ensures) ∙ exact c .1
 
 pub strides-in-spec : {M : Type 1} → statement M
 strides-in-spec = tie.close (tie.spec cast-result inverse-requires mul-result cast-result-2 returns)
