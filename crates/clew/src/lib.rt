@@ -1,5 +1,7 @@
 // The calls of the joiner. Each finishes on every input, asks nothing of its caller, and checks network, sums, work area and
 // state itself: see the refusal numbers in README.md.
+#![tactic(auto)]
+
 mod changing;
 mod loading;
 mod outcome;

@@ -1,4 +1,6 @@
 // The calls for C and Rust: `rt staticlib clew_c` builds the archive, include/clew.h declares them.
+#![tactic(auto)]
+
 ghost use Rattle.std.specs.Prelude.{◌≡◌};
 ghost use Rattle.clew.specs.Calls.{load_of, change_of, replace_of, update_of, read_of};
 ghost use Rattle.clew.specs.Sizes.{sizes_of};

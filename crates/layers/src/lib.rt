@@ -1,4 +1,6 @@
 // What each kind of layer makes, a row at a time, written into the work area; and the sums of its weights.
+#![tactic(auto)]
+
 pub mod add;
 pub mod conv;
 pub mod full;

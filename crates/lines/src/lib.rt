@@ -1,4 +1,6 @@
 // The text of the listing program, on slices.
+#![tactic(auto)]
+
 mod line;
 mod text;
 

@@ -1,4 +1,6 @@
 // Reads a network on standard input and writes its listing. What cannot be read or written is said on standard error.
+#![tactic(auto)]
+
 use libc::{STDERR_FILENO, STDIN_FILENO, STDOUT_FILENO};
 
 // A line on standard error.

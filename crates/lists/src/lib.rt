@@ -1,2 +1,4 @@
 // Slices that are written a part at a time.
+#![tactic(auto)]
+
 pub mod write;

@@ -1,4 +1,6 @@
 // The records of a network file: one layer's record read, or the refusal number of the first fault met in it.
+#![tactic(auto)]
+
 pub mod add;
 pub mod conv;
 pub mod frame;

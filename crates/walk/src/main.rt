@@ -1,5 +1,7 @@
 // Plays a morning at the joiner: walk NETWORK PICTURE FIRST COUNT ROWS LAYER RECORD
 // loads the network, takes the picture, changes COUNT camera rows from row FIRST on, and replaces the record of LAYER.
+#![tactic(auto)]
+
 mod input;
 mod morning;
 mod print;

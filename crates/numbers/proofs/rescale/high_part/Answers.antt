@@ -1,5 +1,4 @@
 -- `numbers::rescale::high_part` meets its contract. Each step's number is a difference, by the laws of `Whole`, and fits.
--- Assumes nothing.
 use Prim.Native.Nat.{ℕ, ◌+◌, ◌-◌, ◌*◌, ◌/◌, ◌^◌, ◌<◌, ◌≤◌}
 use native.Mathlib.Nat.{mul-le-mul_right}
 use native.Mathlib.Omega.{arith}
@@ -10,57 +9,53 @@ use lib.Signed.{shr_z}
 use mir.Syntax.{w32, w64}
 use mir.Val.{SFits, to_z, of_z}
 use Rattle.numbers.proofs.Whole.{up, down, ◌≐◌⊖◌, itself, nat, again, plus, times, equal, fits, range, floored, kept, unsigned, widens, wide}
-use Rattle.numbers.proofs.rescale.high_part.Statement.{statement}
-use Rattle.numbers.proofs.rescale.high_part.Tie as tie
+use Rattle.numbers.proofs.rescale.high_part.Goals as goal
 
 -- the product is `plus-part` less `minus-part`, neither above 2^62
-abbrev plus-part : tie.Start → ℕ
+abbrev plus-part : goal.Start → ℕ
 plus-part c = up c.args.total * c.args.multiplier
 
-abbrev minus-part : tie.Start → ℕ
+abbrev minus-part : goal.Start → ℕ
 minus-part c = down c.args.total * c.args.multiplier
 
-bounds : (c : tie.Start) → (plus-part c ≤ 2 ^ 31 * c.args.multiplier) × (minus-part c ≤ 2 ^ 31 * c.args.multiplier)
+bounds : (c : goal.Start) → (plus-part c ≤ 2 ^ 31 * c.args.multiplier) × (minus-part c ≤ 2 ^ 31 * c.args.multiplier)
 bounds c =
     let sides = range w32 c.args.total c.ranges.total in
     (mul-le-mul_right c.args.multiplier (omega arith), mul-le-mul_right c.args.multiplier (omega arith))
 
-cast-result : tie.Need-overflow-cast-result
-cast-result c = widens c.args.total c.ranges.total
-
-cast-result-2 : tie.Need-overflow-cast-result-2
-cast-result-2 c = search rules
+pub overflow_cast-result : goal.overflow_cast-result
+overflow_cast-result c = widens c.args.total c.ranges.total
 
 -- the product and the sum with k as the machine makes them
-abbrev product : tie.Start → ℤ
+abbrev product : goal.Start → ℤ
 product c = to_z w64 (of_z w64 (to_z w32 (of_z w32 c.args.total))) *ℤ to_z w64 c.args.multiplier
 
-abbrev sum : tie.Start → ℕ → ℤ
+abbrev sum : goal.Start → ℕ → ℤ
 sum c k = to_z w64 (of_z w64 (product c)) +ℤ pos k
 
-product_is : (c : tie.Start) → product c ≐ plus-part c ⊖ minus-part c
+product_is : (c : goal.Start) → product c ≐ plus-part c ⊖ minus-part c
 product_is c =
     again _ _ (times (wide c.args.total c.ranges.total) (unsigned w64 c.args.multiplier (omega arith))) (omega arith)
 
-mul-result : tie.Need-overflow-mul-result
-mul-result c = fits w64 (product_is c) (omega (arith, bounds c)) (omega (arith, bounds c))
+pub overflow_mul-result : goal.overflow_mul-result
+overflow_mul-result c = fits w64 (product_is c) (omega (arith, bounds c)) (omega (arith, bounds c))
 
-sum_is : (c : tie.Start) (k : ℕ) → sum c k ≐ plus-part c + k ⊖ minus-part c
-sum_is c k = again _ _ (plus (kept w64 (mul-result c) (product_is c)) (nat k)) (omega arith)
+sum_is : (c : goal.Start) (k : ℕ) → sum c k ≐ plus-part c + k ⊖ minus-part c
+sum_is c k = again _ _ (plus (kept w64 (overflow_mul-result c) (product_is c)) (nat k)) (omega arith)
 
-add-result : tie.Need-overflow-add-result
-add-result c = fits w64 (sum_is c _) (omega (arith, bounds c)) (omega (arith, bounds c))
+pub overflow_add-result : goal.overflow_add-result
+overflow_add-result c = fits w64 (sum_is c _) (omega (arith, bounds c)) (omega (arith, bounds c))
 
 -- the floor of such a sum: 2^62 more leaves nothing negative, and the quotient is 2^31 more
-abbrev raised : tie.Start → ℕ → ℕ
+abbrev raised : goal.Start → ℕ → ℕ
 raised c k = plus-part c + k + 2 ^ 62 - minus-part c
 
-floor-is : (c : tie.Start) (k : ℕ) {x : ℤ} → x ≐ plus-part c + k ⊖ minus-part c → shr_z x (2 ^ 31) ≐ raised c k / 2 ^ 31 ⊖ 2 ^ 31
+floor-is : (c : goal.Start) (k : ℕ) {x : ℤ} → x ≐ plus-part c + k ⊖ minus-part c → shr_z x (2 ^ 31) ≐ raised c k / 2 ^ 31 ⊖ 2 ^ 31
 floor-is c k e = floored (2 ^ 31) (2 ^ 31) (lit< tt) (again (raised c k) (2 ^ 31 * 2 ^ 31) e (omega (arith, bounds c)))
 
 -- what the shift leaves of the machine's
 shifted :
-    (c : tie.Start) (k : ℕ) →
+    (c : goal.Start) (k : ℕ) →
     SFits w64 (sum c k) →
     k < 2 ^ 31 →
     to_z w64 (of_z w64 (shr_z (to_z w64 (of_z w64 (sum c k))) (2 ^ 31))) ≐ raised c k / 2 ^ 31 ⊖ 2 ^ 31
@@ -68,16 +63,13 @@ shifted c k f p =
     let quotient = floor-is c k (kept w64 f (sum_is c k)) in
     kept w64 (fits w64 quotient (omega (arith, bounds c)) (omega arith)) quotient
 
-cast-result-3 : tie.Need-overflow-cast-result-3
-cast-result-3 c = fits w32 (shifted c _ (add-result c) (lit< tt)) (omega (arith, bounds c)) (omega (arith, bounds c))
+pub overflow_cast-result-3 : goal.overflow_cast-result-3
+overflow_cast-result-3 c = fits w32 (shifted c _ (overflow_add-result c) (lit< tt)) (omega (arith, bounds c)) (omega (arith, bounds c))
 
 -- the definition's sum
-exact : (c : tie.Start) → c.args.total *ℤ pos c.args.multiplier +ℤ pos (2 ^ 30) ≐ plus-part c + 2 ^ 30 ⊖ minus-part c
+exact : (c : goal.Start) → c.args.total *ℤ pos c.args.multiplier +ℤ pos (2 ^ 30) ≐ plus-part c + 2 ^ 30 ⊖ minus-part c
 exact c = again _ _ (plus (times (itself c.args.total) (nat c.args.multiplier)) (nat (2 ^ 30))) (omega arith)
 
-returns : tie.Need-returns
+pub returns : goal.returns
 returns c =
-    equal (kept w32 (cast-result-3 c) (shifted c _ (add-result c) (lit< tt))) (floor-is c (2 ^ 30) (exact c)) (omega arith)
-
-pub high-part-spec : {M : Type 1} → statement M
-high-part-spec = tie.close (tie.spec cast-result cast-result-2 mul-result add-result cast-result-3 returns)
+    equal (kept w32 (overflow_cast-result-3 c) (shifted c _ (overflow_add-result c) (lit< tt))) (floor-is c (2 ^ 30) (exact c)) (omega arith)

@@ -1,5 +1,4 @@
 -- `numbers::rescale::below_zero` meets its contract.
--- Assumes nothing.
 use mathlib.Core.Path.{◌∙◌, ap}
 use borrow.Author.Rules.{rules}
 use lib.IntN.{pos}
@@ -8,16 +7,9 @@ use mir.Syntax.{w32}
 use mir.Val.{bool_byte, to_z, of_z}
 use mir.ValLaws.{to_z-of_z}
 use Rattle.numbers.proofs.Whole.{flag}
-use Rattle.numbers.proofs.rescale.below_zero.Statement.{statement}
-use Rattle.numbers.proofs.rescale.below_zero.Tie as tie
+use Rattle.numbers.proofs.rescale.below_zero.Goals as goal
 
-cast-result : tie.Need-overflow-cast-result
-cast-result c = search rules
-
-returns : tie.Need-returns
+pub returns : goal.returns
 returns c =
     (flag (lt_z (to_z w32 (of_z w32 c.args.z)) (pos 0))).0 ∙
     ap (λ z. pos (bool_byte (lt_z z (pos 0)))) (to_z-of_z w32 c.args.z c.ranges.z)
-
-pub below-zero-spec : {M : Type 1} → statement M
-below-zero-spec = tie.close (tie.spec cast-result returns)

@@ -1,12 +1,10 @@
 -- `numbers::stride::strides_in` meets its contract: no product wraps, and for each stride the shift leaves the quotient.
--- Assumes nothing.
 use mathlib.Core.Path.{◌≡◌, ap, ◌∙◌}
 use Prim.Native.Nat.{ℕ, zero, suc, ◌+◌, ◌*◌, ◌-◌, ◌/◌, ◌^◌, ◌≤◌, ◌<◌}
 use native.Mathlib.Nat.{mul-le-mul}
 use native.Mathlib.Omega.{arith}
 use borrow.Author.Rules.{rules}
-use Rattle.numbers.proofs.stride.strides_in.Statement.{statement}
-use Rattle.numbers.proofs.stride.strides_in.Tie as tie
+use Rattle.numbers.proofs.stride.strides_in.Goals as goal
 
 -- 2^17 / stride, rounded up
 abbrev inverse : ℕ → ℕ
@@ -21,32 +19,23 @@ by-inverse l (suc (suc (suc zero))) h p q = (omega arith, omega arith)
 by-inverse l (suc (suc (suc (suc zero)))) h p q = (omega arith, omega arith)
 by-inverse l (suc (suc (suc (suc (suc s))))) h p q = absurd (omega arith)
 
-cast-result : tie.Need-overflow-cast-result
-cast-result c = search rules
-
-inverse-requires : tie.Need-inverse-requires
-inverse-requires c κs = search rules
-
 exact :
-    (c : tie.After-inverse) →
+    (c : goal.After-inverse) →
     let s = c.before in
-    (inverse s.args.stride ≤ 2 ^ 17) × (s.args.length * inverse s.args.stride / 2 ^ 17 ≡ s.args.length / s.args.stride)
-exact c = let s = c.before in by-inverse s.args.length s.args.stride s.requires.0 s.requires.1 s.requires.2
+    (inverse c.args.stride ≤ 2 ^ 17) × (c.args.length * inverse c.args.stride / 2 ^ 17 ≡ c.args.length / c.args.stride)
+exact c = let s = c.before in by-inverse c.args.length c.args.stride c.requires.0 c.requires.1 c.requires.2
 
-product : (c : tie.After-inverse) → c.before.args.length * c.inverse.result ≤ (2 ^ 15 - 1) * 2 ^ 17
+product : (c : goal.After-inverse) → c.args.length * c.inverse.result ≤ (2 ^ 15 - 1) * 2 ^ 17
 product c =
-    let short : c.before.args.length ≤ 2 ^ 15 - 1 = omega (arith, c.before.requires.0) in
+    let short : c.before.args.length ≤ 2 ^ 15 - 1 = omega (arith, c.requires.0) in
     let few : c.inverse.result ≤ 2 ^ 17 = omega (arith, (exact c).0, c.inverse.ensures) in
     mul-le-mul short few
 
-mul-result : tie.Need-overflow-mul-result
-mul-result c = record { fits = omega (arith, product c) }
+pub overflow_mul-result : goal.overflow_mul-result
+overflow_mul-result c = record { fits = omega (arith, product c) }
 
-cast-result-2 : tie.Need-overflow-cast-result-2
-cast-result-2 c = record { fits = omega (arith, product c) }
+pub overflow_cast-result-2 : goal.overflow_cast-result-2
+overflow_cast-result-2 c = record { fits = omega (arith, product c) }
 
-returns : tie.Need-returns
-returns c = ap (λ k. c.before.args.length * k / 2 ^ 17) c.inverse.ensures ∙ (exact c).1
-
-pub strides-in-spec : {M : Type 1} → statement M
-strides-in-spec = tie.close (tie.spec cast-result inverse-requires mul-result cast-result-2 returns)
+pub returns : goal.returns
+returns c = ap (λ k. c.args.length * k / 2 ^ 17) c.inverse.ensures ∙ (exact c).1
