@@ -17,7 +17,7 @@ use network::net::{Network, layer, tensor};
 use records::layer::{Layer, sums_of, terms_of};
 
 // The fault met so far, and the network of the file.
-#[derive(Drop)]
+#[derive(Clone, Copy)]
 pub struct Tested {
     pub fault: u8,
     pub network: Network,

@@ -5,7 +5,7 @@ ghost use Rattle.clew.specs.Calls.{outcome};
 use bands::state::State;
 
 // Number 0 means done, another is a refusal; count is the bytes recomputed; state is the one to pass to the next call.
-#[derive(Drop)]
+#[derive(Clone, Copy)]
 pub struct Outcome {
     pub number: u8,
     pub count: u32,
@@ -14,7 +14,7 @@ pub struct Outcome {
 
 // How large the buffers of a network are: the bytes of the picture, how many sums are stored, the bytes of the work area and those of a
 // reading. Number 0 means that the file is taken, another is a refusal, and then all are 0.
-#[derive(Drop)]
+#[derive(Clone, Copy)]
 pub struct Sizes {
     pub number: u8,
     pub picture: usize,

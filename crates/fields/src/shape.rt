@@ -7,7 +7,7 @@ ghost use Rattle.fields.specs.Asked.{SmallShape};
 use numbers::limits::{AREA_MOST, TENSOR_MOST};
 
 // The rows, columns and channels of a tensor.
-#[derive(Drop)]
+#[derive(Clone, Copy)]
 pub struct Shape {
     pub rows: usize,
     pub columns: usize,

@@ -18,7 +18,7 @@ use windows::dots::{byte_total, dot};
 
 // How many outputs there are; where their biases and weights begin in the file and their sums in the store; z is the
 // input's zero-point.
-#[derive(Drop)]
+#[derive(Clone, Copy)]
 pub struct Outputs {
     pub count: usize,
     pub biases: usize,

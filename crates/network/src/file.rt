@@ -20,7 +20,7 @@ use records::reader::{Before, Read, fit_record, kind_at, own_fault};
 
 // A file read so far: the fault met, or 0 with where the next record begins, how many layers there are, and the
 // network of these.
-#[derive(Drop)]
+#[derive(Clone, Copy)]
 pub struct Progress {
     pub fault: u8,
     pub at: usize,
@@ -29,7 +29,7 @@ pub struct Progress {
 }
 
 // The answer: fault 0 with the network, or the number of the first fault met with a network of no layer.
-#[derive(Drop)]
+#[derive(Clone, Copy)]
 pub struct Decoded {
     pub fault: u8,
     pub network: Network,

@@ -9,7 +9,7 @@ use records::mark::Mark;
 
 // The picture's shape and zero-point, the number of layers, the layers, and the bytes of all tensors and the number of
 // all stored sums: what the work area and the sum store must hold.
-#[derive(Drop)]
+#[derive(Clone, Copy)]
 pub struct Network {
     pub picture: Shape,
     pub zero: u8,

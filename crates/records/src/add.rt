@@ -9,7 +9,7 @@ use fields::bytes::u32_at;
 use fields::faults::{clamp_fault, first_of, multiplier_fault, shift_fault};
 
 // `first` rescales tensor k − 1, `second` tensor `other`, and `third` their sum.
-#[derive(Drop)]
+#[derive(Clone, Copy)]
 pub struct Add {
     pub other: u8,
     pub zero: u8,

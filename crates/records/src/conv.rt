@@ -10,7 +10,7 @@ use crate::weighing::{Weighing, weighing_at, weighing_fields};
 use fields::faults::{first_of, one_to_64};
 
 // The parameters of a convolution.
-#[derive(Drop)]
+#[derive(Clone, Copy)]
 pub struct Conv {
     pub filters: u8,
     pub frame: Frame,

@@ -9,7 +9,7 @@ use fields::shape::Shape;
 use numbers::stride::strides_in;
 
 // Kernel rows are `height` and kernel columns `width`.
-#[derive(Drop)]
+#[derive(Clone, Copy)]
 pub struct Frame {
     pub height: u8,
     pub width: u8,

@@ -11,7 +11,7 @@ use fields::faults::{first_of, one_to_256};
 use fields::shape::Shape;
 
 // The parameters of a full layer.
-#[derive(Drop)]
+#[derive(Clone, Copy)]
 pub struct Full {
     pub outputs: u16,
     pub weighing: Weighing,

@@ -12,14 +12,14 @@ use fields::shape::{Shape, bytes_of};
 use fields::stored::stored_len;
 
 // A multiplier and a shift, by which a total is rescaled.
-#[derive(Drop)]
+#[derive(Clone, Copy)]
 pub struct Scale {
     pub multiplier: u32,
     pub shift: u8,
 }
 
 // The kinds of layer, each with its parameters.
-#[derive(Drop)]
+#[derive(Clone, Copy)]
 pub enum Kind {
     Conv(Conv),
     Full(Full),
@@ -28,7 +28,7 @@ pub enum Kind {
 
 // Its record begins in the file at `start`, its output tensor in the area at `place`, its sums in the store at `sums`. The
 // mark stands last, where it costs a network's copies least.
-#[derive(Drop)]
+#[derive(Clone, Copy)]
 pub struct Layer {
     pub input: Shape,
     pub output: Shape,

@@ -3,7 +3,7 @@ ghost use Rattle.std.specs.Prelude.{◌≡◌, ◌+◌, ◌≤◌, length, get_o
 ghost use Rattle.records.specs.Mark.{is_mark, mark_at, fixed_len, agreeing};
 
 // Which layer's record a mark begins.
-#[derive(Drop)]
+#[derive(Clone, Copy)]
 pub enum Mark {
     CV,
     FU,

@@ -19,7 +19,7 @@ use fields::stored::{bias_faults, stored_fault, stored_len};
 
 // What stands before a record: the tensor that its layer reads, and how many layers, bytes of tensors and stored sums
 // there are so far.
-#[derive(Drop)]
+#[derive(Clone, Copy)]
 pub struct Before {
     pub input: Shape,
     pub made: usize,
@@ -28,7 +28,7 @@ pub struct Before {
 }
 
 // What reading a layer's record finds: the refusal number, or the layer and where the next record begins.
-#[derive(Drop)]
+#[derive(Clone, Copy)]
 pub enum Read {
     Refused(u8),
     Found(Layer, usize),

@@ -7,7 +7,7 @@ use fields::bytes::u32_at;
 use fields::faults::{clamp_fault, first_of, multiplier_fault, shift_fault};
 
 // v is the weight zero-point and zero the output's.
-#[derive(Drop)]
+#[derive(Clone, Copy)]
 pub struct Weighing {
     pub v: u8,
     pub zero: u8,

@@ -18,7 +18,7 @@ use numbers::limits::WINDOW_MOST;
 use numbers::small::times;
 
 // What one layer's step answers: the bands grown so far, and the bytes recomputed.
-#[derive(Drop)]
+#[derive(Clone, Copy)]
 struct Step {
     state: State,
     count: u32,
