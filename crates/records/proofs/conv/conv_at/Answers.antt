@@ -1,0 +1,6 @@
+-- `records::conv::conv_at` meets its contract.
+use borrow.Author.Rules.{rules}
+use Rattle.records.proofs.conv.conv_at.Goals as goal
+
+pub returns : goal.returns
+returns c = rw c.weighing_at-weighing.ensures
