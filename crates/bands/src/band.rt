@@ -5,7 +5,7 @@ ghost use Rattle.bands.specs.Band.{cover as cover_of};
 use numbers::small::smaller;
 
 // The rows from first up to but not including end; empty is 0, 0.
-#[derive(Drop)]
+#[derive(Clone, Copy)]
 pub struct Band {
     pub first: u16,
     pub end: u16,

@@ -11,7 +11,7 @@ use numbers::small::{less, smaller};
 use numbers::stride::strides_in;
 
 // How a layer hangs on its inputs: its second input (its first where it has one), and the rows of its window.
-#[derive(Drop)]
+#[derive(Clone, Copy)]
 pub struct Link {
     pub other: usize,
     pub before: u16,
@@ -44,8 +44,8 @@ pub fn reached(b: Band, y: Link) -> Band
 
 // The band of layer m's tensor grows by what the bands of its inputs reach.
 pub fn grow_one(s: State, y: Link, m: usize) -> State
-    requires m_bound { (m < 16) × (y.other ≤ m) × ((band_of s m).end ≤ tensor_most) × ((band_of s y.other).end ≤ tensor_most) }
-    requires before_bound { (y.before ≤ 256) × (0 < y.kernel) × (0 < y.stride) × (y.stride ≤ 4) }
+    requires tensors { (m < 16) × (y.other ≤ m) × ((band_of s m).end ≤ tensor_most) × ((band_of s y.other).end ≤ tensor_most) }
+    requires window { (y.before ≤ 256) × (0 < y.kernel) × (0 < y.stride) × (y.stride ≤ 4) }
     ensures { result ≡ grow_one s y m }
 {
     let first = reached(band_of(s, m), y);

@@ -5,13 +5,13 @@ ghost use Rattle.bands.specs.State.{band_of, with_band, all_stale, all_empty, fa
 use crate::band::{Band, cover};
 
 // A band for each of tensors 0 to 16.
-#[derive(Drop)]
+#[derive(Clone, Copy)]
 pub struct State {
     pub bands: [Band; 17],
 }
 
 // The rows of tensors 0 to count; the numbers past these say nothing.
-#[derive(Drop)]
+#[derive(Clone, Copy)]
 pub struct Tensors {
     pub count: usize,
     pub rows: [u16; 17],
