@@ -2,7 +2,7 @@
 -- Assumes nothing.
 use mathlib.Core.Path.{◌≡◌, refl, sym, ap, ◌∙◌}
 use mathlib.Core.List.{List, ◌++◌}
-use mathlib.Core.Bool.{Bool, true, false, ◌&&◌, and_false, false≢true}
+use mathlib.Core.Bool.{Bool, true, false, ◌&&◌, and-false, false≢true}
 use Prim.Native.Nat.{ℕ, ◌+◌, ◌*◌, ◌-◌, ◌≤◌, ◌<◌, min}
 use native.Mathlib.Nat.{mul-le-mul_left, mul-le-mul_right, add_assoc}
 use native.Mathlib.Omega.{arith}
@@ -25,7 +25,7 @@ module _ (k n p : ℕ) where
 
   -- a place after the side
   pub side_after : n ≤ p - k → is_real k n p ≡ false
-  side_after h = rw (le-ltb (p - k) n h, and_false)
+  side_after h = rw (le-ltb (p - k) n h, and-false)
 
   -- a real place
   pub side-in : k ≤ p → p - k < n → is_real k n p ≡ true
@@ -60,7 +60,7 @@ module _ (w : Window) (p q : ℕ) where
       is_real w.left w.columns q ≡ false →
       cell_of w t p q ≡ replicate w.channels w.zero
   unfolding cell_of
-  cell-off-column t e = rw (e, and_false)
+  cell-off-column t e = rw (e, and-false)
 
   -- a real cell
   pub cell_in :
@@ -345,9 +345,9 @@ module _ (w : Window) (t : List ℕ) (p q : ℕ) where
       joined_length w.height (w.width * w.channels) _ (λ a. strip-length w t (p + a) q e) ∙ omega arith
 
   -- the window of a tensor of bytes is of bytes
-  pub window_bytes : Bytes t → w.zero ≤ 255 → Bytes (window_of w t p q)
+  pub window-bytes : Bytes t → w.zero ≤ 255 → Bytes (window_of w t p q)
   unfolding window_of strip_of
-  window_bytes h z =
+  window-bytes h z =
       bytes_joined w.height _ (λ a g. bytes_joined w.width _ (λ b g'. cell-bytes w t (p + a) (q + b) h z))
 
   -- a window of one cell, with no padding, is that cell of the tensor

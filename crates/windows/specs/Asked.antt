@@ -3,7 +3,6 @@
 use Rattle.std.specs.Prelude.{ℕ, ◌+◌, ◌-◌, ◌*◌, ◌≤◌, min, ◌≡◌}
 use Rattle.numbers.specs.Limits.{tensor_most}
 use Rattle.numbers.specs.Asked.{channels_most}
-use Rattle.lists.specs.Lists.{part}
 use Rattle.windows.specs.declared.window.Window.{Window}
 use Rattle.windows.specs.declared.window.Strip.{Strip}
 

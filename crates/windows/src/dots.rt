@@ -7,15 +7,19 @@ use numbers::small::wide;
 
 // The product of two bytes.
 fn product(x: u8, y: u8) -> u32
-    ensures { (result ≡ x * y) × (result ≤ 65025) }
+    ensures value { result ≡ x * y }
+    ensures bound { result ≤ 65025 }
 {
     wide(x) * wide(y)
 }
 
 // Σqw over the n places from i.
 fn dot_part(q: &[u8], w: &[u8], i: usize, n: usize) -> u32
-    requires { (length q.now ≡ length w.now) × (i + n ≤ length q.now) × (n ≤ tensor_most) }
-    ensures { (result + dot_of (drop (i + n) q.now) (drop (i + n) w.now) ≡ dot_of (drop i q.now) (drop i w.now)) × (result ≤ 65025 * n) }
+    requires pairs { length q.now ≡ length w.now }
+    requires within { i + n ≤ length q.now }
+    requires few { n ≤ tensor_most }
+    ensures value { result + dot_of (drop (i + n) q.now) (drop (i + n) w.now) ≡ dot_of (drop i q.now) (drop i w.now) }
+    ensures bound { result ≤ 65025 * n }
 {
     let mut s: u32 = 0;
     let mut k = 0;
@@ -28,8 +32,10 @@ fn dot_part(q: &[u8], w: &[u8], i: usize, n: usize) -> u32
 
 // Σqw. Blocks of 32 and of 8 have a fixed length, which the compiler turns into packed multiply-adds.
 pub fn dot(q: &[u8], w: &[u8]) -> u32
-    requires { (length q.now ≡ length w.now) × (length q.now ≤ tensor_most) }
-    ensures { (result ≡ dot_of q.now w.now) × (result ≤ 1065369600) }
+    requires pairs { length q.now ≡ length w.now }
+    requires few { length q.now ≤ tensor_most }
+    ensures value { result ≡ dot_of q.now w.now }
+    ensures bound { result ≤ 1065369600 }
 {
     let mut s: u32 = 0;
     let mut i = 0;
@@ -47,7 +53,8 @@ pub fn dot(q: &[u8], w: &[u8]) -> u32
 // Σq.
 pub fn byte_total(q: &[u8]) -> u32
     requires { length q.now ≤ tensor_most }
-    ensures { (result ≡ sum q.now) × (result ≤ 4177920) }
+    ensures value { result ≡ sum q.now }
+    ensures bound { result ≤ 4177920 }
 {
     let mut s: u32 = 0;
     let mut i = 0;

@@ -8,7 +8,7 @@ use lists::write::{copy_in, fill_in};
 use numbers::small::{less, smaller, times};
 
 // The input tensor's shape and zero-point, the kernel's sides, and the rows and columns of padding above and to the left.
-#[derive(Drop)]
+#[derive(Clone, Copy)]
 pub struct Window {
     pub rows: usize,
     pub columns: usize,
@@ -32,8 +32,9 @@ struct Strip {
 
 // The strip at row r of the tensor, from column q of the padded tensor.
 fn strip_at(w: Window, r: usize, q: usize) -> Strip
-    requires small_window { SmallWindow w }
-    requires r_lt_rows { (r < w.rows) × (q ≤ w.columns + w.left) }
+    requires small { SmallWindow w }
+    requires row { r < w.rows }
+    requires column { q ≤ w.columns + w.left }
     ensures { Lies w r q result }
 {
     let first = less(w.left, q);
@@ -49,9 +50,10 @@ fn strip_at(w: Window, r: usize, q: usize) -> Strip
 
 // One row of a window, from row p, column q of the padded tensor, to patch from at.
 fn put_strip(w: Window, t: &[u8], patch: &mut [u8], at: usize, p: usize, q: usize)
-    requires small_window { SmallWindow w }
-    requires t_len { (length t.now ≡ size_of w) × (q ≤ w.columns + w.left) }
-    requires channels_in_bounds { at + w.width * w.channels ≤ length patch.old }
+    requires small { SmallWindow w }
+    requires whole { length t.now ≡ size_of w }
+    requires column { q ≤ w.columns + w.left }
+    requires room { at + w.width * w.channels ≤ length patch.old }
     ensures { patch.new ≡ pasted patch.old at (strip_of w t.now p q) }
 {
     let rows = w.rows;
@@ -78,9 +80,11 @@ fn put_strip(w: Window, t: &[u8], patch: &mut [u8], at: usize, p: usize, q: usiz
 
 // The window from row p, column q of the padded tensor, to the front of patch.
 pub fn gather(w: Window, t: &[u8], patch: &mut [u8], p: usize, q: usize)
-    requires small_window { SmallWindow w }
-    requires t_len { (length t.now ≡ size_of w) × (q ≤ w.columns + w.left) × (p ≤ 131072) }
-    requires w_in_bounds { window_bytes w ≤ length patch.old }
+    requires small { SmallWindow w }
+    requires whole { length t.now ≡ size_of w }
+    requires row { p ≤ 131072 }
+    requires column { q ≤ w.columns + w.left }
+    requires room { window_bytes w ≤ length patch.old }
     ensures { patch.new ≡ pasted patch.old 0 (window_of w t.now p q) }
 {
     let height = w.height;
