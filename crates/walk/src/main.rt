@@ -8,24 +8,23 @@ mod print;
 mod sizes;
 
 use morning::Plan;
+use print::Output;
 use sizes::fit;
+use std::rt::{Env, Files};
 
 // The files are read, held to the network's sizes, and played.
-fn begin(first: usize, count: usize, layer: usize) {
+fn begin(rt: &(impl Env + Files), to: &Output, first: usize, count: usize, layer: usize) {
     let mut file = [0u8; 65537];
     let mut sums = [0u32; 4096];
     let mut area = [0u8; 65537];
     let mut rows = [0u8; 65537];
     let mut new = [0u8; 65537];
-    let f = input::file(1, &mut file);
-    let p = input::file(2, &mut area);
-    let r = input::file(5, &mut rows);
-    let n = input::file(7, &mut new);
-    let k = f.length;
-    let l = r.length;
-    let m = n.length;
+    let f = input::file(rt, to, 1, &mut file);
+    let p = input::file(rt, to, 2, &mut area);
+    let r = input::file(rt, to, 5, &mut rows);
+    let n = input::file(rt, to, 7, &mut new);
     if f.ok & p.ok & r.ok & n.ok {
-        let s = fit(&file[..k], p.length);
+        let s = fit(rt, to, &file[..f.length], p.length);
         if s.ok {
             let plan = Plan {
                 first,
@@ -35,26 +34,31 @@ fn begin(first: usize, count: usize, layer: usize) {
                 reading: s.reading,
             };
             morning::play(
-                &mut file[..k],
+                to,
+                &mut file[..f.length],
                 &mut sums,
                 &mut area,
                 plan,
-                &rows[..l],
-                &new[..m],
+                &rows[..r.length],
+                &new[..n.length],
             );
         }
     }
 }
 
-fn main() {
-    if os::arg_count() != 8 {
-        print::usage();
+fn main(rt: HostRuntime) {
+    let to = Output {
+        out: rt.stdout(),
+        err: rt.stderr(),
+    };
+    if !input::has_word(&rt, 7) || input::has_word(&rt, 8) {
+        print::usage(&to);
         return;
     }
-    let first = input::read_number(3);
-    let count = input::read_number(4);
-    let layer = input::read_number(6);
+    let first = input::read_number(&rt, &to, 3);
+    let count = input::read_number(&rt, &to, 4);
+    let layer = input::read_number(&rt, &to, 6);
     if first.ok & count.ok & layer.ok {
-        begin(first.value, count.value, layer.value);
+        begin(&rt, &to, first.value, count.value, layer.value);
     }
 }

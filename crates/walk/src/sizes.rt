@@ -1,10 +1,12 @@
 // What a network's sizes ask of the picture's file, and tell the morning.
-ghost use Rattle.io.specs.Counts.{IsPrefixLen};
+ghost use Rattle.std.specs.Prelude.{◌≡◌, ◌≤◌, length, take};
 
+use crate::print::Output;
 use crate::{input, print};
+use std::rt::Env;
 
 // Whether network and picture fit, the bytes that the layers make, and those of a reading.
-#[derive(Drop)]
+#[derive(Clone, Copy)]
 pub struct Fitting {
     pub ok: bool,
     pub made: usize,
@@ -13,34 +15,24 @@ pub struct Fitting {
 
 // At most as many as buf has.
 pub fn most(n: usize, buf: &[u8]) -> usize
-    ensures { IsPrefixLen result buf.now }
+    ensures in_bounds { result ≤ length buf.now }
+    ensures front { result ≡ length (take result buf.now) }
 {
-    if n < buf.len() {
-        return n;
-    }
-    buf.len()
+    n.min(buf.len())
 }
 
-// What is left of a.
-fn less(a: usize, b: usize) -> usize {
-    if a < b {
-        return 0;
-    }
-    a - b
-}
-
-// The network must be taken, and the picture's file have the picture's length.
-pub fn fit(file: &[u8], length: usize) -> Fitting {
+// The network must be taken, and the picture's file, which word 2 names, have the picture's length.
+pub fn fit(rt: &impl Env, to: &Output, file: &[u8], length: usize) -> Fitting {
     let sizes = clew::sizes(file);
     if sizes.number != 0 {
-        print::refusal(print::Call::Sizes, sizes.number);
+        print::refusal(to, print::Call::Sizes, sizes.number);
     } else if length != sizes.picture {
-        input::say_word(2);
-        print::other_length(length, sizes.picture);
+        input::say_word(rt, to, 2);
+        print::other_length(to, length, sizes.picture);
     }
     Fitting {
         ok: sizes.number == 0 && length == sizes.picture,
-        made: less(sizes.area, sizes.picture),
+        made: sizes.area.saturating_sub(sizes.picture),
         reading: sizes.reading,
     }
 }
