@@ -131,19 +131,24 @@ module _ (y : Layer) (c : Conv) {file sums : List ℕ} (r : ConvReady y c file s
         at + o.count ≤ size →
         12544 ≤ patch →
         SmallWindow w ×
-        (OutputsReady o (window_bytes w) file sums ×
-        (((from + size_of w ≤ size) × (at + o.count ≤ size)) ×
-        ((q ≤ w.columns + w.left) × (p ≤ 131072) × (window_bytes w ≤ patch))))
+        OutputsReady o (window_bytes w) file sums ×
+        (from + size_of w ≤ size) ×
+        (at + o.count ≤ size) ×
+        (q ≤ w.columns + w.left) ×
+        (p ≤ 131072) ×
+        (window_bytes w ≤ patch)
     unfolding bytes_of
     place-ready z i j from at ew eo hi hj ep eq hf hr hp =
         let sound = window-sound z in
         let taps = taps_few (window_for y.input c.frame z) sound in
         let terms : window_bytes (window_for y.input c.frame z) ≤ 12544 = mul_most (c.frame.height * c.frame.width) y.input.channels 49 256 taps g.channels-few in (
           rw ew sound,
-          (
-            rw (eo, ew) (ready_any (conv_outputs y c 0) z _ r.outputs),
-            ((rw ew hf, hr), (rw (ew, eq) (column-at j hj), rw ep (row_at i hi), rw ew (omega arith))),
-          ),
+          rw (eo, ew) (ready_any (conv_outputs y c 0) z _ r.outputs),
+          rw ew hf,
+          hr,
+          rw (ew, eq) (column-at j hj),
+          rw ep (row_at i hi),
+          rw ew (omega arith),
         )
 
 -- one more place of a row, of the tensor that stands in the area apart from it

@@ -39,9 +39,10 @@ pub fn add_row(
     other: usize,
     i: usize,
 )
-    requires add_ready { AddReady y a }
-    requires placed { (Placed y (length area.old) from) × (Placed y (length area.old) other) }
-    requires i_lt_rows { i < y.output.rows }
+    requires ready { AddReady y a }
+    requires first { Placed y (length area.old) from }
+    requires second { Placed y (length area.old) other }
+    requires row { i < y.output.rows }
     ensures { area.new ≡ pasted area.old (y.place + i * row_bytes y.output) (add_row a z zr (row_bytes y.output) (tensor_at area.old from y.input) (tensor_at area.old other y.input) i) }
 {
     let output = y.output;

@@ -48,10 +48,13 @@ fn conv_place(
     p: usize,
     q: usize,
 )
-    requires small_window { SmallWindow w }
-    requires outputs_ready { OutputsReady o (window_bytes w) file.now sums.now }
-    requires w_in_bounds { (from + size_of w ≤ length area.old) × (at + o.count ≤ length area.old) }
-    requires q_bound { (q ≤ w.columns + w.left) × (p ≤ 131072) × (window_bytes w ≤ length patch.old) }
+    requires small { SmallWindow w }
+    requires ready { OutputsReady o (window_bytes w) file.now sums.now }
+    requires tensor { from + size_of w ≤ length area.old }
+    requires room { at + o.count ≤ length area.old }
+    requires column { q ≤ w.columns + w.left }
+    requires row { p ≤ 131072 }
+    requires patch_room { window_bytes w ≤ length patch.old }
     ensures { area.new ≡ pasted area.old at (outputs_of o file.now sums.now (window_of w (part area.old from (size_of w)) p q)) }
 {
     let n = times(times(w.height, w.width), w.channels);
@@ -72,8 +75,8 @@ fn gathered_row(
     from: usize,
     i: usize,
 )
-    requires conv_row_ready { ConvRowReady y c file.now sums.now (length area.old) from i }
-    requires window_most_in_bounds { window_most ≤ length patch.old }
+    requires ready { ConvRowReady y c file.now sums.now (length area.old) from i }
+    requires patch_room { window_most ≤ length patch.old }
     ensures { area.new ≡ pasted area.old (y.place + i * row_bytes y.output) (conv_row y c z file.now sums.now (tensor_at area.old from y.input) i) }
 {
     let w = window_for(y, c, z);
@@ -106,8 +109,8 @@ fn plain_row(
     from: usize,
     i: usize,
 )
-    requires conv_row_ready { ConvRowReady y c file.now sums.now (length area.old) from i }
-    requires height_value { (c.frame.height ≡ 1) × (c.frame.width ≡ 1) × (c.frame.stride ≡ 1) }
+    requires ready { ConvRowReady y c file.now sums.now (length area.old) from i }
+    requires plain { (c.frame.height ≡ 1) × (c.frame.width ≡ 1) × (c.frame.stride ≡ 1) }
     ensures { area.new ≡ pasted area.old (y.place + i * row_bytes y.output) (conv_row y c z file.now sums.now (tensor_at area.old from y.input) i) }
 {
     let weighing = c.weighing;
@@ -139,8 +142,8 @@ pub fn conv_row(
     from: usize,
     i: usize,
 )
-    requires conv_row_ready { ConvRowReady y c file.now sums.now (length area.old) from i }
-    requires window_most_in_bounds { window_most ≤ length patch.old }
+    requires ready { ConvRowReady y c file.now sums.now (length area.old) from i }
+    requires patch_room { window_most ≤ length patch.old }
     ensures { area.new ≡ pasted area.old (y.place + i * row_bytes y.output) (conv_row y c z file.now sums.now (tensor_at area.old from y.input) i) }
 {
     if c.frame.height == 1 {

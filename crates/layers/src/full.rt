@@ -12,7 +12,7 @@ use records::layer::Layer;
 
 // The one row of a full layer, whose window is the whole tensor that stands in area from `from`, to its place.
 pub fn full_row(y: Layer, f: Full, z: u8, file: &[u8], sums: &[u32], area: &mut [u8], from: usize)
-    requires full_ready { FullReady y f file.now sums.now }
+    requires ready { FullReady y f file.now sums.now }
     requires placed { Placed y (length area.old) from }
     ensures { area.new ≡ pasted area.old y.place (full_row y f z file.now sums.now (tensor_at area.old from y.input)) }
 {

@@ -45,9 +45,12 @@ pub fn outputs_for(y: Layer, count: usize, weighing: Weighing, z: u8) -> Outputs
 
 // One output byte, of a window q with the byte total Σq, and of an output's weights, bias and stored sum.
 fn output(o: Outputs, q: &[u8], w: &[u8], bytes: u32, bias: i32, stored: u32) -> u8
-    requires q_len { (length q.now ≡ length w.now) × (length q.now ≤ tensor_most) × (bytes ≡ sum q.now) }
-    requires bias_bound { (nat_abs bias ≤ 2 ^ 30) × (stored ≤ 255 * length q.now) }
-    requires weighing_ok { WeighingOk o.weighing }
+    requires pairs { length q.now ≡ length w.now }
+    requires few { length q.now ≤ tensor_most }
+    requires total { bytes ≡ sum q.now }
+    requires bias_small { nat_abs bias ≤ 2 ^ 30 }
+    requires stored_small { stored ≤ 255 * length q.now }
+    requires weighing { WeighingOk o.weighing }
     ensures { result ≡ byte_by o.weighing (total_of bias q.now w.now stored o.z o.weighing.v) }
 {
     let by = o.weighing;
@@ -62,8 +65,9 @@ fn output(o: Outputs, q: &[u8], w: &[u8], bytes: u32, bias: i32, stored: u32) ->
 
 // Output f at the window q, whose byte total is worked out once for all outputs.
 fn output_at(o: Outputs, file: &[u8], sums: &[u32], q: &[u8], bytes: u32, f: usize) -> u8
-    requires outputs_ready { OutputsReady o (length q.now) file.now sums.now }
-    requires f_lt_count { (f < o.count) × (bytes ≡ sum q.now) }
+    requires ready { OutputsReady o (length q.now) file.now sums.now }
+    requires one { f < o.count }
+    requires total { bytes ≡ sum q.now }
     ensures { result ≡ output_of o file.now sums.now q.now f }
 {
     let n = q.len();
@@ -75,8 +79,8 @@ fn output_at(o: Outputs, file: &[u8], sums: &[u32], q: &[u8], bytes: u32, f: usi
 
 // The outputs at the window q, to area from at.
 pub fn put_outputs(o: Outputs, file: &[u8], sums: &[u32], q: &[u8], area: &mut [u8], at: usize)
-    requires outputs_ready { OutputsReady o (length q.now) file.now sums.now }
-    requires count_in_bounds { at + o.count ≤ length area.old }
+    requires ready { OutputsReady o (length q.now) file.now sums.now }
+    requires room { at + o.count ≤ length area.old }
     ensures { area.new ≡ pasted area.old at (outputs_of o file.now sums.now q.now) }
 {
     let bytes = byte_total(q);
@@ -98,8 +102,10 @@ pub fn put_within(
     n: usize,
     at: usize,
 )
-    requires outputs_ready { OutputsReady o n file.now sums.now }
-    requires apart { (Apart from n at o.count) × (from + n ≤ length area.old) × (at + o.count ≤ length area.old) }
+    requires ready { OutputsReady o n file.now sums.now }
+    requires apart { Apart from n at o.count }
+    requires window { from + n ≤ length area.old }
+    requires room { at + o.count ≤ length area.old }
     ensures { area.new ≡ pasted area.old at (outputs_of o file.now sums.now (part area.old from n)) }
 {
     let end = from + n;

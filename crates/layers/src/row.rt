@@ -26,7 +26,8 @@ pub fn put_row(
     i: usize,
 )
     requires ready { Ready y file.now sums.now (length area.old) from other }
-    requires i_lt_rows { (i < y.output.rows) × (window_most ≤ length patch.old) }
+    requires row { i < y.output.rows }
+    requires patch_room { window_most ≤ length patch.old }
     ensures { area.new ≡ pasted area.old (y.place + i * row_bytes y.output) (row_of y z zr file.now sums.now (tensor_at area.old from y.input) (tensor_at area.old other y.input) i) }
 {
     let kind = y.kind;
@@ -52,7 +53,9 @@ pub fn put_rows(
     end: usize,
 )
     requires ready { Ready y file.now sums.now (length area.old) from other }
-    requires first_le_end { (first ≤ end) × (end ≤ y.output.rows) × (window_most ≤ length patch.old) }
+    requires order { first ≤ end }
+    requires rows { end ≤ y.output.rows }
+    requires patch_room { window_most ≤ length patch.old }
     ensures { area.new ≡ pasted area.old (y.place + first * row_bytes y.output) (joined (end - first) (λ k. row_of y z zr file.now sums.now (tensor_at area.old from y.input) (tensor_at area.old other y.input) (first + k))) }
 {
     let mut i = first;

@@ -11,10 +11,11 @@ use windows::dots::byte_total;
 
 // The true sums of a layer, to their places in the store.
 pub fn put_sums(y: Layer, file: &[u8], sums: &mut [u32])
-    requires good_shape { GoodShape y.input }
-    requires input_in_bounds { (weights_at y + sums_of y.kind * terms_of y.kind y.input ≤ length file.now) × (length file.now ≤ file_most) }
-    requires input_bound { terms_of y.kind y.input ≤ tensor_most }
-    requires kind_in_bounds { y.sums + sums_of y.kind ≤ length sums.old }
+    requires shape { GoodShape y.input }
+    requires weights { weights_at y + sums_of y.kind * terms_of y.kind y.input ≤ length file.now }
+    requires file_few { length file.now ≤ file_most }
+    requires terms_few { terms_of y.kind y.input ≤ tensor_most }
+    requires room { y.sums + sums_of y.kind ≤ length sums.old }
     ensures { sums.new ≡ pasted sums.old y.sums (layer_sums y file.now) }
 {
     let n = terms_of(y);
