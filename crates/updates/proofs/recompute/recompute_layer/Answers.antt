@@ -1,0 +1,53 @@
+-- `updates::recompute::recompute_layer` meets its contract: each need is a law of one layer's step.
+use Prim.Native.Nat.{◌≤◌}
+use mathlib.Core.Path.{sym}
+use native.Mathlib.Omega.{arith}
+use borrow.Author.Rules.{rules}
+use Rattle.updates.proofs.Fairs.{Fits}
+use Rattle.updates.proofs.Turns.{link-needs, inputs-there, grow-needs, front-size, row-needs, count-needs, ready-now, state-now, band-fits, count-now, area-now}
+use Rattle.updates.proofs.recompute.recompute_layer.Goals as goal
+
+pub link_of-link-requires : goal.link_of-link-requires
+link_of-link-requires c =
+    link-needs c.args.area.now c.args.m c.requires.can_recompute c.requires.m_lt_count.0
+
+pub grow_one-state-requires : goal.grow_one-state-requires
+grow_one-state-requires c =
+    let needs = grow-needs c.args.area.now c.args.m c.requires.can_recompute c.requires.m_lt_count.0 c.args.s c.requires.bands_within c.link_of-link.ensures in
+    record { tensors = needs.0; window = needs.1 }
+
+pub zero_point-requires : goal.zero_point-requires
+zero_point-requires c = omega (arith, inputs-there c.args.area.now c.args.m c.requires.can_recompute c.requires.m_lt_count.0 c.link_of-link.ensures)
+
+pub zero_point-requires-2 : goal.zero_point-requires-2
+zero_point-requires-2 c = omega (arith, inputs-there c.args.area.now c.args.m c.requires.can_recompute c.requires.m_lt_count.0 c.link_of-link.ensures)
+
+pub slice_bounds-put_rows-end-2 : goal.slice_bounds-put_rows-end-2
+slice_bounds-put_rows-end-2 c =
+    sym (front-size c.args.area.now c.args.m c.requires.can_recompute c.requires.m_lt_count.0)
+
+pub place-requires : goal.place-requires
+place-requires c = omega (arith, inputs-there c.args.area.now c.args.m c.requires.can_recompute c.requires.m_lt_count.0 c.link_of-link.ensures)
+
+pub place-requires-2 : goal.place-requires-2
+place-requires-2 c = omega (arith, inputs-there c.args.area.now c.args.m c.requires.can_recompute c.requires.m_lt_count.0 c.link_of-link.ensures)
+
+pub put_rows-requires : goal.put_rows-requires
+put_rows-requires c =
+    let f = band-fits c.args.area.now c.args.m c.requires.can_recompute c.requires.m_lt_count.0 c.args.s c.requires.bands_within c.link_of-link.ensures c.grow_one-state.ensures c.band_of-b.ensures c.layer-y.ensures in record { ready = ready-now c.args.area.now c.args.m c.requires.can_recompute c.requires.m_lt_count.0 c.layer-y.ensures c.link_of-link.ensures c.place.ensures c.place-2.ensures; order = omega (arith, f); rows = omega (arith, f); patch_room = c.requires.m_lt_count.1 }
+
+pub overflow_sub-end : goal.overflow_sub-end
+overflow_sub-end c = omega (arith, band-fits c.args.area.now c.args.m c.requires.can_recompute c.requires.m_lt_count.0 c.args.s c.requires.bands_within c.link_of-link.ensures c.grow_one-state.ensures c.band_of-b.ensures c.layer-y.ensures)
+
+pub times-requires : goal.times-requires
+times-requires c =
+    row-needs c.args.area.now c.args.m c.requires.can_recompute c.requires.m_lt_count.0 c.layer-y.ensures
+
+pub times-bytes-requires : goal.times-bytes-requires
+times-bytes-requires c =
+    let few = count-needs c.args.area.now c.args.m c.requires.can_recompute c.requires.m_lt_count.0 c.band_of-b.result c.layer-y.ensures (band-fits c.args.area.now c.args.m c.requires.can_recompute c.requires.m_lt_count.0 c.args.s c.requires.bands_within c.link_of-link.ensures c.grow_one-state.ensures c.band_of-b.ensures c.layer-y.ensures) c.times.ensures.0 in
+    (omega (arith, few), few.1)
+
+pub returns : goal.returns
+returns c =
+    record { state_value = state-now c.args.area.now c.args.m c.requires.can_recompute c.requires.m_lt_count.0 c.args.s c.requires.bands_within c.link_of-link.ensures c.grow_one-state.ensures c.band_of-b.ensures; count_value = count-now c.args.area.now c.args.m c.requires.can_recompute c.requires.m_lt_count.0 c.args.s c.requires.bands_within c.link_of-link.ensures c.grow_one-state.ensures c.band_of-b.ensures c.layer-y.ensures c.times.ensures.0 c.times-bytes.ensures.0; area_after = area-now c.args.area.now c.args.m c.requires.can_recompute c.requires.m_lt_count.0 c.args.s c.requires.bands_within c.link_of-link.ensures c.grow_one-state.ensures c.band_of-b.ensures c.layer-y.ensures c.zero_point.ensures c.zero_point-2.ensures c.place.ensures c.place-2.ensures c.put_rows.ensures }
