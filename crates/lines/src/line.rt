@@ -16,7 +16,7 @@ use records::layer::{Kind, sums_of};
 // The line of a tensor.
 fn put_line(out: &mut [u8], at: usize, t: usize, word: &[u8], s: Shape, sums: usize) -> usize
     requires good_shape { GoodShape s }
-    requires t_bound { (t ≤ 16) × (sums ≤ channels_most) × (length word.now ≤ 7) × (at + 45 ≤ length out.old) }
+    requires in_range { (t ≤ 16) × (sums ≤ channels_most) × (length word.now ≤ 7) × (at + 45 ≤ length out.old) }
     ensures { (result ≡ at + length (line_of t word.now s sums)) × (result ≤ at + 45) × (out.new ≡ pasted out.old at (line_of t word.now s sums)) }
 {
     let a = put_number(out, at, t, 5);
@@ -33,7 +33,7 @@ fn put_line(out: &mut [u8], at: usize, t: usize, word: &[u8], s: Shape, sums: us
 // The line of what a layer makes.
 fn put_layer(out: &mut [u8], at: usize, t: usize, kind: Kind, s: Shape) -> usize
     requires good_shape { GoodShape s }
-    requires t_bound { (t ≤ 16) × (sums_of kind ≤ channels_most) × (at + 45 ≤ length out.old) }
+    requires in_range { (t ≤ 16) × (sums_of kind ≤ channels_most) × (at + 45 ≤ length out.old) }
     ensures { (result ≡ at + length (line_of t (word_of kind) s (sums_of kind))) × (result ≤ at + 45) × (out.new ≡ pasted out.old at (line_of t (word_of kind) s (sums_of kind))) }
 {
     let sums = sums_of(kind);
@@ -47,9 +47,9 @@ fn put_layer(out: &mut [u8], at: usize, t: usize, kind: Kind, s: Shape) -> usize
 // The heading, the picture's line, and a line for each layer.
 fn put_table(out: &mut [u8], file: &[u8], n: Network) -> usize
     requires taken { Taken file.now n }
-    requires in_bounds { 1024 ≤ length out.old }
-    ensures value { (result ≡ length (table_of n)) × (out.new ≡ pasted out.old 0 (table_of n)) }
-    ensures upper_bound { result ≤ 1024 }
+    requires room { 1024 ≤ length out.old }
+    ensures written { (result ≡ length (table_of n)) × (out.new ≡ pasted out.old 0 (table_of n)) }
+    ensures within { result ≤ 1024 }
 {
     let picture = n.picture;
     let first = put_word(out, 0, b"tensor kind rows columns channels bytes sums\n");
@@ -69,8 +69,8 @@ fn put_table(out: &mut [u8], file: &[u8], n: Network) -> usize
 // The listing of a file, to the front of out, and how long it is.
 pub fn list(file: &[u8], out: &mut [u8]) -> usize
     requires { 1024 ≤ length out.old }
-    ensures value { (result ≡ length (listing_of file.now)) × (out.new ≡ pasted out.old 0 (listing_of file.now)) }
-    ensures upper_bound { result ≤ 1024 }
+    ensures written { (result ≡ length (listing_of file.now)) × (out.new ≡ pasted out.old 0 (listing_of file.now)) }
+    ensures within { result ≤ 1024 }
 {
     let d = decode(file);
     let network = d.network;

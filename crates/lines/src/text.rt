@@ -17,8 +17,8 @@ pub fn put_word(out: &mut [u8], at: usize, word: &[u8]) -> usize
 // Writes a number in decimal: the digits before the last one first.
 pub fn put_number(out: &mut [u8], at: usize, n: usize, k: usize) -> usize
     requires { (0 < k) × (n < 10 ^ k) × (at + k ≤ length out.old) }
-    ensures value { (result ≡ at + length (decimal_to k n)) × (out.new ≡ pasted out.old at (decimal_to k n)) }
-    ensures upper_bound { result ≤ at + k }
+    ensures written { (result ≡ at + length (decimal_to k n)) × (out.new ≡ pasted out.old at (decimal_to k n)) }
+    ensures within { result ≤ at + k }
 {
     if n < 10 {
         out[at] = 48 + n as u8;
@@ -32,8 +32,8 @@ pub fn put_number(out: &mut [u8], at: usize, n: usize, k: usize) -> usize
 // Writes a space and a number.
 pub fn put_column(out: &mut [u8], at: usize, n: usize) -> usize
     requires { (n < 100000) × (at + 6 ≤ length out.old) }
-    ensures value { (result ≡ at + length (column n)) × (out.new ≡ pasted out.old at (column n)) }
-    ensures upper_bound { result ≤ at + 6 }
+    ensures written { (result ≡ at + length (column n)) × (out.new ≡ pasted out.old at (column n)) }
+    ensures within { result ≤ at + 6 }
 {
     out[at] = b' ';
     put_number(out, at + 1, n, 5)
