@@ -11,6 +11,10 @@ fn the_files_that_are_kept_are_these() {
         for (name, bytes) in &files {
             assert!(fs::read(directory.join(name)).expect("the file is kept") == *bytes, "{folder}/{name} differs");
         }
-        assert_eq!(fs::read_dir(directory).expect("the folder is kept").count(), files.len(), "{folder} has other files");
+        assert_eq!(
+            fs::read_dir(directory).expect("the folder is kept").count(),
+            files.len(),
+            "{folder} has other files"
+        );
     }
 }
