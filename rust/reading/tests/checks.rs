@@ -73,7 +73,7 @@ fn c_takes_what_the_sources_declare() {
 #[test]
 fn c_finds_a_word_that_nothing_declares() {
     assert_eq!(told_with(READING, "`call`", "`calls`").differences, ["docs/READING.md:4: `calls` is not known"]);
-    assert_eq!(told_with(READING, "`p`", "`.new`").differences, ["docs/READING.md:4: `.new` is not known"]);
+    assert_eq!(told_with(READING, "`p`", "`.end`").differences, ["docs/READING.md:4: `.end` is not known"]);
 }
 
 #[test]
