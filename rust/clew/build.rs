@@ -27,25 +27,25 @@ fn processor() -> String {
     env::var("CARGO_CFG_TARGET_ARCH").expect("cargo gives the processor").replace('_', "-")
 }
 
-/// The first folder that has an archive, which has to be for this processor; or what is wrong, in words.
+/// The folder of the archive, which has to be for this processor; or what is wrong, in words.
 fn folder_to_link(processor: &str) -> Result<PathBuf, String> {
     let name = match processor {
         "arm" => "armv7",
         "wasm32" => "wasm",
         same => same,
     };
-    let folders = folders(name);
+    let folder = folder(name);
     let makes = format!("`tools/archive {name}` makes");
-    let Some(folder) = folders.iter().find(|folder| has_archive(folder)) else {
-        let first = folders[0].display();
+    if !has_archive(&folder) {
+        let place = folder.display();
         return Err(format!(
-            "{ARCHIVE} is not in {first}: {makes} it, in target/archives/{name}; CLEW_LIB_DIR may name another folder"
+            "{ARCHIVE} is not in {place}: {makes} it, in target/archives/{name}; CLEW_LIB_DIR may name another folder"
         ));
-    };
+    }
     let of = format!("{ARCHIVE} in {}", folder.display());
     let bytes = fs::read(folder.join(ARCHIVE)).map_err(|error| format!("{of}: {error}"))?;
     match archive::processor(&bytes) {
-        Some(its) if its == processor => Ok(folder.clone()),
+        Some(its) if its == processor => Ok(folder),
         Some(its) => Err(format!(
             "{of} is for {its}, and this build is for {processor}: {makes} the right one, in target/archives/{name}"
         )),
@@ -53,15 +53,15 @@ fn folder_to_link(processor: &str) -> Result<PathBuf, String> {
     }
 }
 
-/// Where the archive is looked for: the folder that CLEW_LIB_DIR names, or those of the repository's top into which
-/// tools/archive and `rt staticlib clew_c` put it.
-fn folders(name: &str) -> Vec<PathBuf> {
+/// Where the archive is looked for: the folder that CLEW_LIB_DIR names, or the one of the repository's top into which
+/// tools/archive puts it.
+fn folder(name: &str) -> PathBuf {
     if let Some(folder) = env::var_os("CLEW_LIB_DIR") {
-        return vec![PathBuf::from(folder)];
+        return PathBuf::from(folder);
     }
     let manifest = env::var_os("CARGO_MANIFEST_DIR").expect("cargo gives the manifest's folder");
     let top = Path::new(&manifest).ancestors().nth(2).expect("this crate stands two folders below the top");
-    vec![top.join("target/archives").join(name), top.join("target/staticlib")]
+    top.join("target/archives").join(name)
 }
 
 /// Whether the archive is there; cargo looks again when that changes.

@@ -1,4 +1,5 @@
-// The calls for C and Rust: `rt staticlib clew_c` builds the archive, include/clew.h declares them.
+// The calls over plain numbers and slices, as C and Rust make them. Crate clew_export hands these out under the same names, and
+// include/clew.h declares them.
 #![tactic(auto)]
 
 ghost use Rattle.std.specs.Prelude.{◌≡◌};
@@ -11,8 +12,7 @@ mod flat;
 use flat::{numbers_of, state_of};
 
 // Sizes: the picture's bytes, the stored sums, the area's bytes and a reading's bytes; all 0 where the file is refused.
-#[unsafe(no_mangle)]
-pub extern "C" fn clew_sizes(net: &[u8], sizes: &mut [u32; 4]) -> u8
+pub fn clew_sizes(net: &[u8], sizes: &mut [u32; 4]) -> u8
     ensures { (result, sizes.new) ≡ sizes_told (sizes_of net.now) }
 {
     let z = clew::sizes(net);
@@ -26,8 +26,7 @@ pub extern "C" fn clew_sizes(net: &[u8], sizes: &mut [u32; 4]) -> u8
 }
 
 // Load: the sums are filled, and every row is stale.
-#[unsafe(no_mangle)]
-pub extern "C" fn clew_load(net: &[u8], sums: &mut [u32], area: &[u8], state: &mut [u16; 34]) -> u8
+pub fn clew_load(net: &[u8], sums: &mut [u32], area: &[u8], state: &mut [u16; 34]) -> u8
     ensures { (result, sums.new, state.new) ≡ told (load_of net.now sums.old area.now) }
 {
     let o = clew::load(net, sums, area);
@@ -37,8 +36,7 @@ pub extern "C" fn clew_load(net: &[u8], sums: &mut [u32], area: &[u8], state: &m
 }
 
 // Change rows: rows of the picture are written, and are stale.
-#[unsafe(no_mangle)]
-pub extern "C" fn clew_change_rows(
+pub fn clew_change_rows(
     net: &[u8],
     sums: &[u32],
     area: &mut [u8],
@@ -56,8 +54,7 @@ pub extern "C" fn clew_change_rows(
 }
 
 // Replace layer: a record and its sums are written, and its tensor is stale.
-#[unsafe(no_mangle)]
-pub extern "C" fn clew_replace_layer(
+pub fn clew_replace_layer(
     net: &mut [u8],
     sums: &mut [u32],
     area: &[u8],
@@ -74,8 +71,7 @@ pub extern "C" fn clew_replace_layer(
 }
 
 // Update: what follows from stale rows is recomputed, and counted.
-#[unsafe(no_mangle)]
-pub extern "C" fn clew_update(
+pub fn clew_update(
     net: &[u8],
     sums: &[u32],
     area: &mut [u8],
@@ -92,14 +88,7 @@ pub extern "C" fn clew_update(
 }
 
 // Read: the last tensor is copied.
-#[unsafe(no_mangle)]
-pub extern "C" fn clew_read(
-    net: &[u8],
-    sums: &[u32],
-    area: &[u8],
-    state: &[u16; 34],
-    out: &mut [u8],
-) -> u8
+pub fn clew_read(net: &[u8], sums: &[u32], area: &[u8], state: &[u16; 34], out: &mut [u8]) -> u8
     ensures { (result, out.new) ≡ read_told (read_of net.now sums.now area.now (state_of state.now) out.old) }
 {
     let o = clew::read(net, sums, area, state_of(state), out);

@@ -9,7 +9,7 @@ use crate::tree::Tree;
 use crate::uses::{self, Key};
 
 /// The crates whose functions make the promises.
-const PROMISING: [&str; 3] = ["clew", "clew_c", "lines"];
+const PROMISING: [&str; 4] = ["clew", "clew_c", "clew_export", "lines"];
 
 /// The folder of the statements' definitions.
 const STATEMENTS: &str = "crates/facts/specs/";

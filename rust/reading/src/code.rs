@@ -65,13 +65,24 @@ pub fn functions(text: &str) -> Vec<Function> {
             continue;
         }
         contract = contract && words != "{";
-        ensures = contract && (words.starts_with("ensures") || ensures && !words.starts_with("requires"));
+        let clause = clause(words);
+        ensures = contract && clause.map_or(ensures, |(kind, _)| kind == "ensures");
         if let (true, Some(last)) = (ensures, found.last_mut()) {
-            last.ensures += words;
+            last.ensures += clause.map_or(words, |(_, said)| said);
             last.ensures += "\n";
         }
     }
     found
+}
+
+/// The kind of the clause that a line begins, and what the line says in it, without the clause's name.
+fn clause(line: &str) -> Option<(&str, &str)> {
+    let (kind, rest) = leading_name(line);
+    let said = match rest.split_once('{') {
+        Some((name, said)) if leading_name(name.trim_start_matches('*').trim()).1.is_empty() => said,
+        _ => rest,
+    };
+    ["requires", "ensures"].contains(&kind).then_some((kind, said))
 }
 
 /// The function that a line begins, with nothing promised yet.

@@ -7,7 +7,7 @@ use crate::words::{is_name, is_of_name};
 use crate::{code, proofs, specs};
 
 /// The words of the kit: no source here declares them.
-const KIT: [&str; 7] = ["natAbs", "shrZ", "-ℤ", "/", "ensures", "requires", ".entry"];
+const KIT: [&str; 10] = ["nat_abs", "shr_z", "-ℤ", "/", "ensures", "requires", "result", ".new", ".old", ".now"];
 
 /// What a path ends in, if it has no slash.
 const ENDINGS: [&str; 5] = [".antt", ".rt", ".md", ".rs", ".h"];

@@ -25,8 +25,10 @@ impl Tree {
     /// A tree of these files, crates.txt among them.
     pub fn of(files: BTreeMap<String, String>) -> Tree {
         let listed = files.get(CRATES).map_or("", String::as_str);
-        let lines = listed.lines().filter(|line| !line.starts_with('#'));
-        let crates = lines.filter_map(|line| line.split_once(':')).map(|(name, _)| name.trim().to_string()).collect();
+        let lines = listed.lines().map(|line| line.split('#').next().unwrap_or_default());
+        // A kind may follow the name, and no library need.
+        let names = lines.filter_map(|line| line.split(':').next().unwrap_or_default().split_whitespace().next());
+        let crates = names.map(String::from).collect();
         Tree { crates, files }
     }
 

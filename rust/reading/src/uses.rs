@@ -47,12 +47,11 @@ pub fn of_specs(text: &str, keyword: &str, tree: &Tree) -> Scope {
 
 /// The file that a path leads to, and the type in it whose variants or constructors the path names.
 fn specs_place<'a>(path: &'a str, tree: &Tree) -> Option<(String, Option<&'a str>)> {
-    let path = path.strip_prefix("Rattle·")?;
-    let (owner, inner) = path.split_once("·specs.specs.").or_else(|| path.split_once(".specs."))?;
+    let (owner, inner) = path.strip_prefix("Rattle.")?.split_once(".specs.")?;
     if !tree.crates.iter().any(|name| name == owner) {
         return None;
     }
-    let parts: Vec<&str> = inner.split('.').filter(|part| *part != "the-variants").collect();
+    let parts: Vec<&str> = inner.split('.').filter(|part| *part != "TheVariants").collect();
     Some(match parts.as_slice() {
         ["declared", modules @ .., name] => (format!("crates/{owner}/src/{}.rt", modules.join("/")), Some(name)),
         [modules @ .., name] if !modules.is_empty() => {

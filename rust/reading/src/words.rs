@@ -1,15 +1,23 @@
 //! The words and the lines of a text.
 
-/// What ends a word, besides a space and a dot.
-const ENDS: &str = "(){};,λ⌜⌝«»";
+/// What ends a word, besides a space.
+const ENDS: &str = "(){};,λ«»";
 
 /// What a name may have in it, besides letters and digits.
-const IN_NAMES: &str = "-_′·";
+const IN_NAMES: &str = "-_'";
 
-/// The words of a text in the language of the proofs; a field access, ` .name`, is none.
+/// The words of a text in the language of the proofs; a field, as in `x.name` and `(f x).name`, is none.
 pub fn words(text: &str) -> impl Iterator<Item = &str> {
     let chunks = text.split(|c: char| c.is_whitespace() || ENDS.contains(c));
-    chunks.filter(|chunk| !chunk.starts_with('.')).flat_map(|chunk| chunk.split('.')).filter(|word| !word.is_empty())
+    chunks
+        .flat_map(|chunk| chunk.split('.').take(if is_module(chunk) { usize::MAX } else { 1 }))
+        .filter(|word| !word.is_empty())
+}
+
+/// Whether a text begins with the name of a module, and not of a variable: what follows its dot is a name there, and no field.
+fn is_module(text: &str) -> bool {
+    let name = text.split('.').next().unwrap_or_default();
+    name.starts_with(char::is_uppercase) && name.chars().count() > 1
 }
 
 /// Whether a name may have this in it.

@@ -15,7 +15,7 @@ fn names(others: &[(&str, &str)]) -> Vec<String> {
     names
 }
 
-const ALL: [&str; 8] = ["Doubles", "Pair", "Side", "Step", "callOf", "sumOf", "told", "twice"];
+const ALL: [&str; 8] = ["Doubles", "Pair", "Side", "Step", "call_of", "sum_of", "told", "twice"];
 
 #[test]
 fn promises_statements_and_all_they_rest_on() {
@@ -25,15 +25,18 @@ fn promises_statements_and_all_they_rest_on() {
 #[test]
 fn without_a_root_what_only_it_rests_on_is_not_believed() {
     let left = |gone: &[&str]| ALL.into_iter().filter(|name| !gone.contains(name)).collect::<Vec<_>>();
-    assert_eq!(names(&[("crates/clew_c/src/lib.rt", "")]), left(&["told"]));
+    let (by_name, by_c) = (("crates/clew_c/src/lib.rt", ""), ("crates/clew_export/src/lib.rt", ""));
+    assert_eq!(names(&[by_name]), ALL);
+    assert_eq!(names(&[by_c]), ALL);
+    assert_eq!(names(&[by_name, by_c]), left(&["told"]));
     assert_eq!(names(&[("crates/facts/proofs/Demand.antt", "")]), left(&["Doubles", "Step"]));
 }
 
 #[test]
 fn a_promise_of_the_lines_counts_too() {
-    let line = "ghost use Rattle·numbers.specs.Asked.{Small};
+    let line = "ghost use Rattle.numbers.specs.Asked.{Small};
 pub fn list()
-    ensures { ⌜ Small 0 ⌝ }
+    ensures { Small 0 }
 {
 }
 ";
@@ -42,21 +45,22 @@ pub fn list()
 
 #[test]
 fn a_variant_and_a_constructor_stand_for_their_type() {
-    let flat = "use Rattle·numbers.specs.declared.side.Side.the-variants.{Long as Far}
-use Rattle·facts.specs.Demand.Step.{again}
+    let flat = "use Rattle.numbers.specs.declared.side.Side.TheVariants.{Long as Far}
+use Rattle.facts.specs.Demand.Step.{again}
 pub told : ℕ
 told = again Far
 ";
-    let code = "ghost use Rattle·clew_c·specs.specs.Flat.{told};
+    let code = "ghost use Rattle.clew_c.specs.Flat.{told};
 pub extern \"C\" fn clew_call()
-    ensures { ⌜ told ⌝ }
+    ensures { told }
 {
 }
 ";
     let others = [
         ("crates/clew/src/lib.rt", ""),
         ("crates/clew_c/specs/Flat.antt", flat),
-        ("crates/clew_c/src/lib.rt", code),
+        ("crates/clew_c/src/lib.rt", ""),
+        ("crates/clew_export/src/lib.rt", code),
         ("crates/facts/proofs/Demand.antt", ""),
     ];
     assert_eq!(names(&others), ["Side", "Step", "told"]);
@@ -64,7 +68,7 @@ pub extern \"C\" fn clew_call()
 
 #[test]
 fn a_field_access_is_no_use() {
-    let flat = "abbrev pub told : ℕ → ℕ\ntold n = n .other\n\npub other : ℕ\nother = 0\n";
+    let flat = "abbrev pub told : ℕ → ℕ\ntold n = n.other + (f n).other\n\npub other : ℕ\nother = 0\n";
     assert_eq!(names(&[("crates/clew_c/specs/Flat.antt", flat)]), ALL);
 }
 

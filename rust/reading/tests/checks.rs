@@ -64,7 +64,7 @@ fn b_takes_a_name_of_which_one_is_believed() {
 #[test]
 fn c_takes_what_the_sources_declare() {
     let proofs = "  pub record Kept : Type 0 where\n    pub held-so : ℕ\nabbrev half : ℕ\nhalf = 0\n";
-    let words = "`Kept` `held-so` `half` `Short` `left` `few` `q′` `ab` `.entry` `-ℤ` `/` `a::b` `clew_call`";
+    let words = "`Kept` `held-so` `half` `Short` `left` `few` `q'` `ab` `.old` `-ℤ` `/` `a::b` `clew_call`";
     let reading = format!("{}{words}\n", text(READING));
     let others = [("crates/clew/proofs/call/Proof.antt", proofs), (READING, &reading)];
     assert_eq!(told(&others).differences, [""; 0]);
@@ -73,7 +73,7 @@ fn c_takes_what_the_sources_declare() {
 #[test]
 fn c_finds_a_word_that_nothing_declares() {
     assert_eq!(told_with(READING, "`call`", "`calls`").differences, ["docs/READING.md:4: `calls` is not known"]);
-    assert_eq!(told_with(READING, "`p`", "`.exit`").differences, ["docs/READING.md:4: `.exit` is not known"]);
+    assert_eq!(told_with(READING, "`p`", "`.end`").differences, ["docs/READING.md:4: `.end` is not known"]);
 }
 
 #[test]
@@ -100,14 +100,14 @@ fn d_finds_two_meanings_of_a_name() {
 #[test]
 fn d_takes_a_second_meaning_that_is_not_believed() {
     let more = format!("{}\npub record twice : Type 0 where\n", text("crates/numbers/specs/Asked.antt"));
-    let more = more.replace("use Rattle·numbers·specs.specs.Total.{twice}\n", "");
+    let more = more.replace("use Rattle.numbers.specs.Total.{twice}\n", "");
     assert_eq!(told(&[("crates/numbers/specs/Asked.antt", &more)]).differences, [""; 0]);
 }
 
 #[test]
 fn e_finds_the_few_that_are_not_believed() {
     let path = "crates/numbers/specs/Total.antt";
-    let more = format!("{}\npub thrice : Pair → ℕ\nthrice p = twice p + sumOf p\n", text(path));
+    let more = format!("{}\npub thrice : Pair → ℕ\nthrice p = twice p + sum_of p\n", text(path));
     assert_eq!(told(&[(path, &more)]).differences, [format!("{path}: these are not believed: `thrice`")]);
 }
 

@@ -9,12 +9,12 @@ use reading::words::words;
 use reading::{code, doc, proofs, specs};
 
 const SPECS: &str = "-- A file.
-use mathlib.Core.List.{
+use Rattle.std.specs.Prelude.{
   List, [],
 }
 
-abbrev pub zero-point′ : ℕ
-zero-point′ = record {
+abbrev pub zero-point' : ℕ
+zero-point' = record {
   -- a field
   value = 0;
 }
@@ -39,8 +39,8 @@ pub data Call : Type 0 where
 
 #[test]
 fn words_end_at_brackets_and_dots() {
-    let found: Vec<&str> = words("f (x .first) (λ t. g′ t .0){a-b;c·d}").collect();
-    assert_eq!(found, ["f", "x", "t", "g′", "t", "a-b", "c·d"]);
+    let found: Vec<&str> = words("f x.first (λ t. g' t.0.1){a-b;c_d} (h y).e Y.off Calls.of .z").collect();
+    assert_eq!(found, ["f", "x", "t", "g'", "t", "a-b", "c_d", "h", "y", "Y", "Calls", "of"]);
 }
 
 #[test]
@@ -48,7 +48,7 @@ fn a_definition_runs_on_to_the_next() {
     let parsed = specs::parse(SPECS);
     let sizes: Vec<_> = parsed.definitions.iter().map(|d| (d.name.as_str(), d.sort, d.lines.len())).collect();
     let expected = [
-        ("zero-point′", Sort::Value, 4),
+        ("zero-point'", Sort::Value, 4),
         ("Held", Sort::Record, 4),
         ("inner", Sort::Value, 2),
         ("Deep", Sort::Record, 2),
@@ -79,23 +79,23 @@ fn lines_of_no_definition_are_strays() {
 
 #[test]
 fn use_lines_lead_to_files() {
-    let text = "use Prim.Native.Nat.{ℕ}
-use Rattle·io.specs.Counts.{count}
-use Rattle·clew.specs.Calls.{
-  callOf as f,
+    let text = "use Rattle.std.specs.Prelude.{ℕ}
+use Rattle.io.specs.Counts.{count}
+use Rattle.clew.specs.Calls.{
+  call_of as f,
   g
 }
-use Rattle·clew_c·specs.specs.Flat.{told}
-use Rattle·numbers.specs.declared.side.Side.the-variants.{Short}
-use Rattle·facts·specs.specs.Demand.Step.{again}
-use Rattle·clew.proofs.Answers.{answer}
+use Rattle.clew_c.specs.Flat.{told}
+use Rattle.numbers.specs.declared.side.Side.TheVariants.{Short}
+use Rattle.facts.specs.Demand.Step.{again}
+use Rattle.clew.proofs.Answers.{answer}
 ";
     let scope = of_specs(text, "use", &tree(&[]));
     let found: Vec<_> = scope.iter().map(|(here, key)| format!("{here}: {} {}", key.file, key.name)).collect();
     let expected = [
         "Short: crates/numbers/src/side.rt Side",
         "again: crates/facts/specs/Demand.antt Step",
-        "f: crates/clew/specs/Calls.antt callOf",
+        "f: crates/clew/specs/Calls.antt call_of",
         "g: crates/clew/specs/Calls.antt g",
         "told: crates/clew_c/specs/Flat.antt told",
     ];
@@ -136,9 +136,11 @@ enum Side {
 fn hidden(
     left: u8,
 ) -> u8
-    requires { ⌜ Asked left ⌝ }
-    ensures { λ r. ⌜ Given r ⌝ }
-    ensures { λ r. ⌜ More r ⌝ }
+    requires { Asked left }
+    ensures given { Given result }
+    ensures more {
+        More result
+    }
 {
     let ensures = Other { left };
     left
@@ -161,7 +163,8 @@ fn types_have_members_and_lines() {
 #[test]
 fn functions_have_their_promises_and_no_more() {
     let functions = code::functions(CODE);
-    let found: Vec<_> = functions.iter().map(|f| (f.name.as_str(), f.public, f.ensures.lines().count())).collect();
+    let found: Vec<_> =
+        functions.iter().map(|f| (f.name.as_str(), f.public, f.ensures.matches("result").count())).collect();
     assert_eq!(found, [("hidden", false, 2), ("clew_one", true, 0)]);
     assert!(!functions[0].ensures.contains("Asked") && !functions[0].ensures.contains("Other"));
 }

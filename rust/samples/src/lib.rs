@@ -9,7 +9,11 @@ const SIDE: usize = 24;
 const BACKGROUND: u8 = 16;
 const THREAD: u8 = 200;
 
-/// A file's name in samples/, and its bytes.
+/// The folders that keep the files: the one to try things with, and the one whose files the gate gives the walk program. They are
+/// two, since the kit takes no link.
+pub const FOLDERS: [&str; 2] = ["samples", "crates/walk/data"];
+
+/// A file's name there, and its bytes.
 pub fn files() -> Vec<(&'static str, Vec<u8>)> {
     vec![
         ("centre.net", network()),

@@ -1,13 +1,15 @@
-//! Writes the sample files into the directory that is named, or into samples/ of the repository's top.
+//! Writes the sample files into the directory that is named, or into samples/ and crates/walk/data of the repository.
 
-use std::path::PathBuf;
+use std::path::{Path, PathBuf};
 use std::{env, fs, io};
 
 fn main() -> io::Result<()> {
-    let kept = || concat!(env!("CARGO_MANIFEST_DIR"), "/../../samples").into();
-    let directory = PathBuf::from(env::args_os().nth(1).unwrap_or_else(kept));
-    for (name, bytes) in samples::files() {
-        fs::write(directory.join(name), bytes)?;
+    let top = Path::new(env!("CARGO_MANIFEST_DIR")).join("../..");
+    let kept = || samples::FOLDERS.map(|folder| top.join(folder)).to_vec();
+    for directory in env::args_os().nth(1).map_or_else(kept, |named| vec![PathBuf::from(named)]) {
+        for (name, bytes) in samples::files() {
+            fs::write(directory.join(name), bytes)?;
+        }
     }
     Ok(())
 }

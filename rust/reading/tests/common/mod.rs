@@ -7,28 +7,31 @@ use std::collections::BTreeMap;
 use reading::tree::Tree;
 use reading::{report, untold, Report};
 
-const FILES: [(&str, &str); 16] = [
-    ("crates.txt", "# Crates.\nnumbers:\nclew: numbers\nfacts: numbers clew\nclew_c: clew\nlines:\n"),
+const FILES: [(&str, &str); 17] = [
+    (
+        "crates.txt",
+        "# Crates.\nnumbers:\nclew: numbers\nfacts: numbers clew\nclew_c: clew\nclew_export staticlib: clew_c\nlines\n",
+    ),
     ("crates/numbers/specs/Lib.antt", "pub mod Total\npub mod Asked\n"),
     (
         "crates/numbers/specs/Total.antt",
         "-- Totals.
-use Prim.Native.Nat.{ℕ, _+_}
-use Rattle·numbers·specs.specs.declared.pair.Pair.{Pair}
+use Rattle.std.specs.Prelude.{ℕ, ◌+◌}
+use Rattle.numbers.specs.declared.pair.Pair.{Pair}
 
 -- the sum of both
-abbrev pub sumOf : Pair → ℕ
-sumOf p = p .left + p .right
+abbrev pub sum_of : Pair → ℕ
+sum_of p = p.left + p.right
 
 unfoldable pub twice : Pair → ℕ
 twice p =
-    sumOf p + sumOf p
+    sum_of p + sum_of p
 ",
     ),
     (
         "crates/numbers/specs/Asked.antt",
-        "use Rattle·numbers·specs.specs.Total.{twice}
-use Rattle·numbers·specs.specs.declared.pair.Pair.{Pair}
+        "use Rattle.numbers.specs.Total.{twice}
+use Rattle.numbers.specs.declared.pair.Pair.{Pair}
 
 pub record Small (p : Pair) : Type 0 where
   pub few : twice p ≤ 9
@@ -49,23 +52,23 @@ pub struct Pair {
     ("crates/numbers/src/side.rt", "#[small]\npub enum Side {\n    Short(u8),\n    Long,\n}\n"),
     (
         "crates/clew/specs/Calls.antt",
-        "use Rattle·numbers.specs.Total.{twice as doubled}
-use Rattle·numbers.specs.declared.pair.Pair.{Pair}
+        "use Rattle.numbers.specs.Total.{twice as doubled}
+use Rattle.numbers.specs.declared.pair.Pair.{Pair}
 
-unfoldable pub callOf : Pair → ℕ
-callOf p = doubled p
+unfoldable pub call_of : Pair → ℕ
+call_of p = doubled p
 ",
     ),
     ("crates/clew/src/lib.rt", "mod calling;\n\npub use calling::call;\n"),
     (
         "crates/clew/src/calling.rt",
-        "ghost use mathlib.Core.Path.{_≡_};
-ghost use Rattle·numbers.specs.Asked.{Small};
-ghost use Rattle·clew·specs.specs.Calls.{callOf};
+        "ghost use Rattle.std.specs.Prelude.{◌≡◌};
+ghost use Rattle.numbers.specs.Asked.{Small};
+ghost use Rattle.clew.specs.Calls.{call_of};
 
 pub fn call(p: Pair) -> u8
-    requires { ⌜ Small p ⌝ }
-    ensures { λ r. ⌜ r ≡ callOf p ⌝ }
+    requires { Small p }
+    ensures { result ≡ call_of p }
 {
     helped(p)
 }
@@ -74,34 +77,46 @@ pub fn call(p: Pair) -> u8
     ("crates/clew_c/specs/Flat.antt", "abbrev pub told : ℕ → ℕ\ntold n = n\n"),
     (
         "crates/clew_c/src/lib.rt",
-        "ghost use Rattle·clew.specs.Calls.{callOf};
-ghost use Rattle·clew_c·specs.specs.Flat.{told};
+        "ghost use Rattle.clew.specs.Calls.{call_of};
+ghost use Rattle.clew_c.specs.Flat.{told};
 
-#[no_mangle]
-pub extern \"C\" fn clew_call(left: u8) -> u8
-    ensures { λ r. ⌜ r ≡ told (callOf left) ⌝ }
+pub fn clew_call(left: u8) -> u8
+    ensures { result ≡ told (call_of left) }
 {
     0
 }
 ",
     ),
+    (
+        "crates/clew_export/src/lib.rt",
+        "ghost use Rattle.clew.specs.Calls.{call_of};
+ghost use Rattle.clew_c.specs.Flat.{told};
+
+#[unsafe(no_mangle)]
+pub extern \"C\" fn clew_call(left: u8) -> u8
+    ensures { result ≡ told (call_of left) }
+{
+    clew_c::clew_call(left)
+}
+",
+    ),
     ("crates/lines/src/lib.rt", "mod line;\npub use line::list;\n"),
-    ("crates/lines/src/line.rt", "pub fn list() -> u8\n    ensures { λ r. ⌜ r ≤ 9 ⌝ }\n{\n    0\n}\n"),
+    ("crates/lines/src/line.rt", "pub fn list() -> u8\n    ensures { result ≤ 9 }\n{\n    0\n}\n"),
     (
         "crates/facts/specs/Demand.antt",
-        "use Rattle·clew.specs.Calls.{callOf}
+        "use Rattle.clew.specs.Calls.{call_of}
 
 pub data Step : Type 0 where
   again : Step → Step
 
 pub record Doubles : Type 0 where
-  pub each : (p : ℕ) → Step → callOf p ≡ p + p
+  pub each : (p : ℕ) → Step → call_of p ≡ p + p
 ",
     ),
     (
         "crates/facts/proofs/Demand.antt",
-        "use Rattle·facts·specs.specs.Demand.{Doubles}
-use Rattle·numbers.specs.Asked.{Small}
+        "use Rattle.facts.specs.Demand.{Doubles}
+use Rattle.numbers.specs.Asked.{Small}
 
 -- a law of another crate's definition
 pub small : Small
@@ -114,9 +129,9 @@ doubles = record { each = each-step }
         "docs/READING.md",
         "# What to believe
 
-`sumOf` and `twice` of a `Pair` with a `Side` each; `callOf`, `told`; `Step` and `Doubles`, proved by `doubles`.
+`sum_of` and `twice` of a `Pair` with a `Side` each; `call_of`, `told`; `Step` and `Doubles`, proved by `doubles`.
 Its field is `each`, its constructor `again`. `call` asks for `Small p`, and `p` is `&[u8]` long in `numbers`.
-Files: `crates/`, `clew/src/lib.rt`, `specs/Calls.antt`. By `natAbs`:
+Files: `crates/`, `clew/src/lib.rt`, `specs/Calls.antt`. By `nat_abs`:
 
     `Small` and `nothing` count for nothing here
 ",
