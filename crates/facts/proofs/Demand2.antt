@@ -23,7 +23,7 @@ use Rattle.records.specs.declared.layer.Scale.{Scale}
 use Rattle.windows.specs.Window.{window_of}
 use Rattle.lists.proofs.Bytes.{Bytes, bytes_take, bytes_drop}
 use Rattle.lists.proofs.Pasted.{part_length, joined_same}
-use Rattle.windows.proofs.Windows.{window-length, window_bytes}
+use Rattle.windows.proofs.Windows.{window-length, window-bytes}
 use Rattle.network.specs.Network.{layer_of, tensor_of, place_of, zero_of}
 use Rattle.network.specs.Decode.{decode_of}
 use Rattle.network.specs.declared.net.Network.{Network}
@@ -136,7 +136,7 @@ totals_by :
     → TotalsBy k y z z' file sums t
 totals_by (Conv c) y z z' file sums t zeros r bf bt e hz hz' = λ i j f h.
     total-within (conv_outputs y c z) file sums (window_of (window_for y.input c.frame z) t i j) _ f (ready_any (conv_outputs y c 0) z _ r.outputs) h
-    (conv_window y c z t i j e) (window_bytes (window_for y.input c.frame z) t i j bt hz) bf hz zeros.0
+    (conv_window y c z t i j e) (window-bytes (window_for y.input c.frame z) t i j bt hz) bf hz zeros.0
 totals_by (Full g) y z z' file sums t zeros r bf bt e hz hz' = λ f h.
     total-within (full_outputs y g z) file sums t _ f (ready_any (full_outputs y g 0) z _ r.outputs) h e bt bf hz zeros.0
 totals_by (Add a) y z z' file sums t zeros r bf bt e hz hz' = λ q q' hq hq'. (
