@@ -2,7 +2,6 @@
 use Prim.Native.Nat.{◌^◌}
 use mathlib.Core.Path.{sym, ◌∙◌}
 use native.Mathlib.Omega.{arith}
-use borrow.Author.Rules.{rules}
 use lib.IntN.{pos, ◌-ℤ◌}
 use mir.Syntax.{w32, w64}
 use mir.Val.{to_z}

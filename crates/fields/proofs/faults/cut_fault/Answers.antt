@@ -1,5 +1,4 @@
 -- `fields::faults::cut_fault` meets its contract.
-use borrow.Author.Rules.{rules}
 use borrow.Author.Tests.{le-leb, lt-leb}
 use Rattle.fields.specs.Faults.{cut_fault}
 use Rattle.fields.proofs.faults.cut_fault.Goals as goal

@@ -1,7 +1,6 @@
 -- `fields::shape::size_fault` meets its contract.
 use borrow.Author.Tests.{le-leb, lt-leb}
 use Rattle.fields.specs.Shape.{size_fault}
-use borrow.Author.Rules.{rules}
 use Rattle.fields.proofs.shape.size_fault.Goals as goal
 
 pub returns-then-total-n-le-AREA_MOST : goal.returns-then-total-n-le-AREA_MOST

@@ -1,10 +1,5 @@
-use borrow.Author.Rules.{rules}
-use Prim.Native.Nat.{◌≤◌, ◌+◌, ◌*◌}
-use mathlib.Core.Path.{◌≡◌, refl}
+use mathlib.Core.Path.{refl}
 use native.Mathlib.Omega.{arith}
-use lib.ListN.{length}
-use Rattle.fields.specs.Faults.{first}
-use Rattle.fields.specs.Stored.{bias_faults}
 use Rattle.fields.proofs.Biases.{bias_turn, bias_none}
 use Rattle.fields.proofs.Tests.{first-none}
 use Rattle.fields.proofs.stored.bias_faults.Goals as goal

@@ -1,14 +1,10 @@
 -- `fields::stored::bias_faults` meets its contract. The loop's invariant: the fault so far, and then those of the biases that are left, are those of all.
 -- The measure is how many are left.
-use borrow.Author.Rules.{rules}
 use Prim.Native.Nat.{◌≤◌, ◌+◌, ◌*◌}
-use mathlib.Core.Path.{◌≡◌, refl}
-use native.Mathlib.Omega.{arith}
+use mathlib.Core.Path.{◌≡◌}
 use lib.ListN.{length}
 use Rattle.fields.specs.Faults.{first}
 use Rattle.fields.specs.Stored.{bias_faults}
-use Rattle.fields.proofs.Biases.{bias_turn, bias_none}
-use Rattle.fields.proofs.Tests.{first-none}
 use Rattle.fields.proofs.stored.bias_faults.Given as goal
 
 abbrev pub invariant-loop-left : goal.invariant-loop-left

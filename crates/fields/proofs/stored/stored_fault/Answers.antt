@@ -1,5 +1,4 @@
 -- `fields::stored::stored_fault` meets its contract.
-use borrow.Author.Rules.{rules}
 use mathlib.Core.Path.{sym, ◌∙◌, ap, ◌≡◌}
 use Prim.Native.Nat.{ℕ}
 use mathlib.Core.List.{List}

@@ -1,10 +1,8 @@
 use mathlib.Core.Path.{refl, ◌∙◌, ap}
-use mathlib.Core.List.{[], ◌∷◌}
-use Prim.Native.Nat.{◌-◌}
 use native.Mathlib.Omega.{arith}
 use lib.ListN.{length, get_or}
 use Rattle.lists.specs.Lists.{pasted}
-use Rattle.lists.proofs.Laid.{Laid, laid_none, laid_store, laid_done, joined_all}
+use Rattle.lists.proofs.Laid.{laid_none, laid_store, laid_done, joined_all}
 use Rattle.lists.proofs.write.copy_in.Goals as goal
 
 pub loop-i-init : goal.loop-i-init

@@ -1,11 +1,8 @@
 -- `lists::write::copy_in` meets its contract. The loop's invariant: i of the elements are laid from the place.
-use mathlib.Core.Path.{refl, ◌∙◌, ap}
 use mathlib.Core.List.{[], ◌∷◌}
 use Prim.Native.Nat.{◌-◌}
-use native.Mathlib.Omega.{arith}
 use lib.ListN.{length, get_or}
-use Rattle.lists.specs.Lists.{pasted}
-use Rattle.lists.proofs.Laid.{Laid, laid_none, laid_store, laid_done, joined_all}
+use Rattle.lists.proofs.Laid.{Laid}
 use Rattle.lists.proofs.write.copy_in.Given as goal
 
 abbrev pub invariant-loop-i : goal.invariant-loop-i

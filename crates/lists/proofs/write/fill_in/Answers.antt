@@ -1,9 +1,7 @@
 use mathlib.Core.Path.{refl, ◌∙◌, ap}
-use mathlib.Core.List.{[], ◌∷◌}
-use Prim.Native.Nat.{◌-◌}
 use native.Mathlib.Omega.{arith}
 use Rattle.lists.specs.Lists.{pasted}
-use Rattle.lists.proofs.Laid.{Laid, laid_none, laid_store, laid_done, joined_one}
+use Rattle.lists.proofs.Laid.{laid_none, laid_store, laid_done, joined_one}
 use Rattle.lists.proofs.write.fill_in.Goals as goal
 
 pub loop-i-init : goal.loop-i-init

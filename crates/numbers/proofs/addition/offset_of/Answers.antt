@@ -2,7 +2,7 @@
 use mathlib.Core.Path.{◌∙◌, ap}
 use Prim.Native.Nat.{◌*◌, ◌^◌}
 use native.Mathlib.Omega.{arith}
-use borrow.Author.Rules.{rules, sfits_of}
+use borrow.Author.Rules.{sfits_of}
 use lib.IntN.{pos, ◌-ℤ◌, ◌*ℤ◌}
 use mir.Syntax.{w32}
 use mir.Val.{to_z, of_z}

@@ -1,6 +1,6 @@
 -- `numbers::addition::summed_of` meets its contract: the sum of two numbers within 2^28 of zero fits, and is rescaled.
 use mathlib.Core.Path.{◌≡◌, ◌∙◌, ap, ap₂, subst⁻¹}
-use borrow.Author.Rules.{rules, sfits_of}
+use borrow.Author.Rules.{sfits_of}
 use lib.IntN.{◌+ℤ◌}
 use mir.Syntax.{w32}
 use mir.Val.{SFits, to_z, of_z}

@@ -1,5 +1,4 @@
 -- `records::add::add_at` meets its contract.
-use borrow.Author.Rules.{rules}
 use Rattle.records.proofs.add.add_at.Goals as goal
 
 pub returns : goal.returns

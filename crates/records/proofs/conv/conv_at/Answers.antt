@@ -1,5 +1,4 @@
 -- `records::conv::conv_at` meets its contract.
-use borrow.Author.Rules.{rules}
 use Rattle.records.proofs.conv.conv_at.Goals as goal
 
 pub returns : goal.returns

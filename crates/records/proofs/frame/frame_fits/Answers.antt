@@ -1,6 +1,5 @@
 -- `records::frame::frame_fits` meets its contract.
 use Rattle.records.proofs.Frames.{fits_rows, fits-none}
-use borrow.Author.Rules.{rules}
 use Rattle.records.proofs.frame.frame_fits.Goals as goal
 
 pub returns-then-f-input : goal.returns-then-f-input

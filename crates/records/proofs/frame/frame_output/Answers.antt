@@ -7,7 +7,6 @@ use Rattle.fields.specs.Asked.{SmallShape}
 use Rattle.fields.specs.declared.shape.Shape.{Shape}
 use Rattle.records.specs.Frame.{frame_output}
 use Rattle.records.proofs.Frames.{frame_small}
-use borrow.Author.Rules.{rules}
 use Rattle.records.proofs.frame.frame_output.Goals as goal
 
 pub overflow_add-result : goal.overflow_add-result

@@ -1,5 +1,4 @@
 -- `records::full::full_at` meets its contract.
-use borrow.Author.Rules.{rules}
 use Rattle.records.proofs.full.full_at.Goals as goal
 
 pub returns : goal.returns

@@ -1,7 +1,6 @@
 -- `records::layer::biases_at` meets its contract.
 use native.Mathlib.Omega.{arith}
 use Rattle.records.proofs.Ranges.{fixed_few}
-use borrow.Author.Rules.{rules}
 use Rattle.records.proofs.layer.biases_at.Goals as goal
 
 pub overflow_add-result : goal.overflow_add-result

@@ -1,7 +1,6 @@
 -- `records::layer::record_len` meets its contract.
 use native.Mathlib.Omega.{arith}
 use Rattle.records.proofs.Ranges.{fixed_few}
-use borrow.Author.Rules.{rules}
 use Rattle.records.proofs.layer.record_len.Goals as goal
 
 pub overflow_add-result : goal.overflow_add-result

@@ -2,7 +2,6 @@
 use Prim.Native.Nat.{◌*◌}
 use native.Mathlib.Omega.{arith}
 use Rattle.fields.proofs.Shapes.{mul_most}
-use borrow.Author.Rules.{rules}
 use Rattle.records.proofs.layer.terms_by.Goals as goal
 
 pub overflow_mul-result : goal.overflow_mul-result

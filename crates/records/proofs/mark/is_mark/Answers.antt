@@ -1,7 +1,6 @@
 -- `records::mark::is_mark` meets its contract.
 use borrow.Author.Tests.{eq-eqb, ne_eqb}
 use Rattle.records.specs.Mark.{is_mark}
-use borrow.Author.Rules.{rules}
 use Rattle.records.proofs.mark.is_mark.Goals as goal
 
 pub returns-then-s-at : goal.returns-then-s-at

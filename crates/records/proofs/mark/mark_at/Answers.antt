@@ -1,12 +1,7 @@
 -- `records::mark::mark_at` meets its contract.
-use Prim.Native.Nat.{◌-◌}
-use mathlib.Core.Bool.{false}
-use lib.Dec.{ltb}
-use lib.ListN.{length}
-use mathlib.Core.Path.{sym, ◌∙◌, ◌≡◌}
+use mathlib.Core.Path.{sym, ◌∙◌}
 use borrow.Author.Tests.{lt-ltb, le-ltb}
-use Rattle.records.specs.Mark.{is_mark, mark_at}
-use borrow.Author.Rules.{rules}
+use Rattle.records.specs.Mark.{mark_at}
 use Rattle.records.proofs.mark.mark_at.Goals as goal
 
 pub returns-then-s-at-lt2 : goal.returns-then-s-at-lt2

@@ -4,7 +4,6 @@ use Rattle.fields.proofs.Tests.{there_cut}
 use Rattle.records.specs.Reader.{read_as}
 use Rattle.records.proofs.Ranges.{own_ok}
 use Rattle.records.proofs.Answers.{stop, pass}
-use borrow.Author.Rules.{rules}
 use Rattle.records.proofs.reader.fit_record.Goals as goal
 
 pub returns-then-suit-ne0 : goal.returns-then-suit-ne0

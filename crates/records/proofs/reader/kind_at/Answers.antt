@@ -1,5 +1,4 @@
 -- `records::reader::kind_at` meets its contract.
-use borrow.Author.Rules.{rules}
 use Rattle.records.proofs.reader.kind_at.Goals as goal
 
 pub conv_at-requires : goal.conv_at-requires

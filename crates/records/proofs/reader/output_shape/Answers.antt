@@ -1,7 +1,6 @@
 -- `records::reader::output_shape` meets its contract.
 use Rattle.records.specs.Asked.{ConvOk}
 use Rattle.records.proofs.Ranges.{suits_fit}
-use borrow.Author.Rules.{rules}
 use Rattle.records.proofs.reader.output_shape.Goals as goal
 
 pub frame_output-requires : goal.frame_output-requires

@@ -6,7 +6,6 @@ use Rattle.records.specs.Full.{full_fields}
 use Rattle.records.specs.Add.{add_fields}
 use native.Mathlib.Omega.{arith}
 use Rattle.records.specs.Reader.{own_fault}
-use borrow.Author.Rules.{rules}
 use Rattle.records.proofs.reader.own_fault.Goals as goal
 
 pub conv_at-requires : goal.conv_at-requires

@@ -1,7 +1,6 @@
 -- `records::reader::suit_fault` meets its contract.
 use borrow.Author.Tests.{le-leb, lt-leb}
 use Rattle.records.specs.Reader.{suit_fault}
-use borrow.Author.Rules.{rules}
 use Rattle.records.proofs.reader.suit_fault.Goals as goal
 
 pub returns-then-same_shape : goal.returns-then-same_shape

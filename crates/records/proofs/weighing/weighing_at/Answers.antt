@@ -1,5 +1,4 @@
 -- `records::weighing::weighing_at` meets its contract.
-use borrow.Author.Rules.{rules}
 use Rattle.records.proofs.weighing.weighing_at.Goals as goal
 
 pub returns : goal.returns
