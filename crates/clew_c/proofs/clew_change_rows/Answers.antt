@@ -1,4 +1,3 @@
-use borrow.Author.Rules.{rules}
 use Rattle.clew_c.proofs.Told.{told_is}
 use Rattle.clew_c.proofs.clew_change_rows.Goals as goal
 

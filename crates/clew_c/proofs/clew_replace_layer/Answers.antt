@@ -1,4 +1,3 @@
-use borrow.Author.Rules.{rules}
 use Rattle.clew_c.proofs.Told.{replaced-is}
 use Rattle.clew_c.proofs.clew_replace_layer.Goals as goal
 

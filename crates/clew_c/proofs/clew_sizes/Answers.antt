@@ -5,7 +5,6 @@ use Rattle.clew.specs.Sizes.{sizes_of}
 use Rattle.clew.specs.declared.outcome.Sizes.{Sizes}
 use Rattle.clew.proofs.Sized.{Small, sizes_small}
 use Rattle.clew_c.specs.Flat.{sizes_told}
-use borrow.Author.Rules.{rules}
 use Rattle.clew_c.proofs.clew_sizes.Goals as goal
 
 -- no size is above 65,536

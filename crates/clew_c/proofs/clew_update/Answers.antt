@@ -1,4 +1,3 @@
-use borrow.Author.Rules.{rules}
 use Rattle.clew_c.proofs.Told.{updated-is}
 use Rattle.clew_c.proofs.clew_update.Goals as goal
 

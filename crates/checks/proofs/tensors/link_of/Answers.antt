@@ -3,7 +3,6 @@ use mathlib.Core.Path.{◌∙◌, ap}
 use native.Mathlib.Omega.{arith}
 use Rattle.records.specs.declared.layer.Layer.{Layer}
 use Rattle.checks.proofs.Links.{link_at}
-use borrow.Author.Rules.{rules}
 use Rattle.checks.proofs.tensors.link_of.Goals as goal
 
 pub overflow_cast-rows : goal.overflow_cast-rows

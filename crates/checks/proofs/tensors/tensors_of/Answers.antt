@@ -1,12 +1,10 @@
-use Prim.Native.Nat.{ℕ, ◌-◌}
+use Prim.Native.Nat.{ℕ}
 use mathlib.Core.Path.{ap}
-use mathlib.Core.List.{List, [], ◌∷◌}
+use mathlib.Core.List.{List}
 use native.Mathlib.Omega.{arith}
-use lib.ListN.{replicate}
-use borrow.Author.Rules.{rules}
 use Rattle.fields.specs.declared.shape.Shape.{Shape}
 use Rattle.network.specs.Network.{tensor_of}
-use Rattle.lists.proofs.Laid.{Laid, laid_none, laid_array_store, laid_array}
+use Rattle.lists.proofs.Laid.{laid_none, laid_array_store, laid_array}
 use Rattle.checks.proofs.tensors.tensors_of.Goals as goal
 
 pub loop-t-init : goal.loop-t-init

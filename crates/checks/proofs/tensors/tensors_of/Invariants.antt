@@ -1,13 +1,9 @@
 -- `checks::tensors::tensors_of` meets its contract. The loop's invariant: the rows of the first t tensors are laid.
-use Prim.Native.Nat.{ℕ, ◌-◌}
-use mathlib.Core.Path.{ap}
-use mathlib.Core.List.{List, [], ◌∷◌}
-use native.Mathlib.Omega.{arith}
+use Prim.Native.Nat.{◌-◌}
+use mathlib.Core.List.{[], ◌∷◌}
 use lib.ListN.{replicate}
-use borrow.Author.Rules.{rules}
-use Rattle.fields.specs.declared.shape.Shape.{Shape}
 use Rattle.network.specs.Network.{tensor_of}
-use Rattle.lists.proofs.Laid.{Laid, laid_none, laid_array_store, laid_array}
+use Rattle.lists.proofs.Laid.{Laid}
 use Rattle.checks.proofs.tensors.tensors_of.Given as goal
 
 abbrev pub invariant-loop-t : goal.invariant-loop-t

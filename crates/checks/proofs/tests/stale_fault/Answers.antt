@@ -1,5 +1,4 @@
 use mathlib.Core.Path.{sym, ◌∙◌}
-use borrow.Author.Rules.{rules}
 use Rattle.checks.specs.Tests.{stale_fault}
 use Rattle.checks.proofs.tests.stale_fault.Goals as goal
 

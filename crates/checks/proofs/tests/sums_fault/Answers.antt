@@ -1,11 +1,8 @@
-use Prim.Native.Nat.{◌≤◌, ◌-◌}
 use Rattle.std.proofs.Common.{ℕ, List, Bool}
 use mathlib.Core.Path.{◌≡◌, refl, sym, ◌∙◌, ap}
-use mathlib.Core.Bool.{true}
 use native.Mathlib.Omega.{arith}
 use native.Mathlib.Numerals.{add-one}
 use borrow.Author.Rules.{rules}
-use borrow.Author.Tests.{not-true, not-false}
 use Rattle.records.specs.declared.layer.Layer.{Layer}
 use Rattle.network.specs.Network.{layer_of}
 use Rattle.network.proofs.Bounds.{terms-few}

@@ -1,14 +1,13 @@
-use Prim.Native.Nat.{◌+◌, ◌*◌, ◌≤◌, ◌<◌, ◌-◌}
+use Prim.Native.Nat.{◌+◌, ◌*◌, ◌≤◌, ◌<◌}
 use mathlib.Core.Path.{◌≡◌, refl, sym}
-use mathlib.Core.Bool.{true}
 use native.Mathlib.Omega.{arith}
 use native.Mathlib.Numerals.{add-one}
 use borrow.Author.Rules.{rules}
 use borrow.Author.Tests.{le-leb, lt-leb}
-use lib.ListN.{length, get_or}
+use lib.ListN.{get_or}
 use Rattle.lists.specs.Choice.{every}
 use Rattle.lists.proofs.Choice.{every_more, every-not}
-use Rattle.checks.proofs.Sums.{sum_in, fits_as}
+use Rattle.checks.proofs.Sums.{fits_as}
 use Rattle.checks.proofs.tests.sums_fit.Goals as goal
 
 pub overflow_cast-most : goal.overflow_cast-most

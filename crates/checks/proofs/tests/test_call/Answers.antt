@@ -1,5 +1,4 @@
 use mathlib.Core.Path.{sym, ◌∙◌}
-use borrow.Author.Rules.{rules}
 use Rattle.fields.proofs.Tests.{met, passed}
 use Rattle.checks.proofs.Passed.{load_passed, call_is}
 use Rattle.checks.proofs.Rows.{decoded_rows}

@@ -1,5 +1,4 @@
 use mathlib.Core.Path.{◌∙◌}
-use borrow.Author.Rules.{rules}
 use Rattle.checks.specs.Tests.{load_fault}
 use Rattle.checks.proofs.tests.test_load.Goals as goal
 

@@ -4,9 +4,8 @@ use native.Mathlib.Omega.{arith}
 use lib.ListN.{length}
 use Rattle.fields.proofs.Tests.{met, passed}
 use Rattle.clew.proofs.Answers.{both, change-refused, change-done}
-use Rattle.clew.proofs.Entered.{Entered, entered}
-use Rattle.clew.proofs.Rooms.{RowsFit, rows_fit}
-use borrow.Author.Rules.{rules}
+use Rattle.clew.proofs.Entered.{entered}
+use Rattle.clew.proofs.Rooms.{rows_fit}
 use Rattle.clew.proofs.changing.change_rows.Goals as goal
 
 pub returns-then-t-ne0 : goal.returns-then-t-ne0

@@ -3,7 +3,6 @@ use mathlib.Core.Path.{sym, ◌∙◌, refl}
 use Rattle.checks.proofs.Passed.{load_passed}
 use Rattle.checks.proofs.Rows.{decoded_rows}
 use Rattle.clew.proofs.Answers.{both, load-refused, load-done}
-use borrow.Author.Rules.{rules}
 use Rattle.clew.proofs.loading.load.Goals as goal
 
 pub returns-then-t-ne0 : goal.returns-then-t-ne0

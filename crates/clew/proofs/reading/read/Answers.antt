@@ -1,16 +1,14 @@
 -- `clew::reading::read` meets its contract.
 use Rattle.std.proofs.Common.{ℕ}
-use Prim.Native.Nat.{◌+◌, ◌≤◌}
 use mathlib.Core.Path.{◌≡◌, ◌∙◌, sym, refl}
 use native.Mathlib.Nat.{le_refl}
 use native.Mathlib.Omega.{arith}
 use lib.ListN.{length}
 use Rattle.fields.proofs.Tests.{met, passed, first_both}
 use Rattle.fields.specs.Faults.{first}
-use Rattle.checks.specs.Tests.{slice_fault, stale_fault}
 use Rattle.checks.proofs.Passed.{slice_passed}
 use Rattle.clew.proofs.Answers.{both, read-refused, read_done, slice-read}
-use Rattle.clew.proofs.Entered.{Entered, entered}
+use Rattle.clew.proofs.Entered.{entered}
 use Rattle.clew.proofs.Rooms.{slice_fits}
 use borrow.Author.Rules.{rules}
 use Rattle.clew.proofs.reading.read.Goals as goal

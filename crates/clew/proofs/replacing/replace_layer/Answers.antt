@@ -1,17 +1,11 @@
 -- `clew::replacing::replace_layer` meets its contract.
-use Prim.Native.Nat.{◌-◌, ◌≤◌, ◌<◌}
 use native.Mathlib.Omega.{arith}
-use mathlib.Core.Path.{◌≡◌, refl}
+use mathlib.Core.Path.{refl}
 use lib.ListN.{length}
 use Rattle.fields.proofs.Tests.{met, passed}
-use Rattle.lists.specs.Lists.{pasted}
-use Rattle.layers.specs.Sums.{layer_sums}
-use Rattle.bands.specs.State.{replaced}
-use Rattle.clew.specs.Calls.{outcome}
 use Rattle.clew.proofs.Answers.{all_three, replace-refused, replace-done}
-use Rattle.clew.proofs.Entered.{Entered, entered}
+use Rattle.clew.proofs.Entered.{entered}
 use Rattle.clew.proofs.Rooms.{layer_there, record-there, record-fits, sums-fit, output-few}
-use borrow.Author.Rules.{rules}
 use Rattle.clew.proofs.replacing.replace_layer.Goals as goal
 
 pub returns-then-t-ne0 : goal.returns-then-t-ne0

@@ -2,7 +2,6 @@
 use mathlib.Core.Path.{sym, ap}
 use native.Mathlib.Nat.{le_refl}
 use Rattle.fields.proofs.Shapes.{small}
-use Rattle.network.specs.Taken.{Taken}
 use Rattle.clew.proofs.Sized.{sizes_refused, sizes_taken, decoded_taken}
 use borrow.Author.Rules.{rules}
 use Rattle.clew.proofs.sizing.sizes.Goals as goal

@@ -3,8 +3,7 @@ use mathlib.Core.Path.{refl}
 use native.Mathlib.Omega.{arith}
 use lib.ListN.{length}
 use Rattle.clew.proofs.Answers.{both, update-refused, update-done}
-use Rattle.clew.proofs.Entered.{Entered, entered}
-use borrow.Author.Rules.{rules}
+use Rattle.clew.proofs.Entered.{entered}
 use Rattle.clew.proofs.updating.update.Goals as goal
 
 pub returns-then-t-ne0 : goal.returns-then-t-ne0

@@ -1,7 +1,5 @@
-use Prim.Native.Nat.{◌-◌}
-use borrow.Author.Rules.{rules}
 use Rattle.lists.proofs.Laid.{laid_none}
-use Rattle.clew_c.proofs.Flats.{Written, written_more, written_all}
+use Rattle.clew_c.proofs.Flats.{written_more, written_all}
 use Rattle.clew_c.proofs.flat.numbers_of.Goals as goal
 
 pub loop-t-init : goal.loop-t-init

@@ -1,8 +1,6 @@
 -- `clew_c::flat::numbers_of` meets its contract. The loop's invariant: the numbers of the first t bands are written.
 use Prim.Native.Nat.{◌-◌}
-use borrow.Author.Rules.{rules}
-use Rattle.lists.proofs.Laid.{laid_none}
-use Rattle.clew_c.proofs.Flats.{Written, written_more, written_all}
+use Rattle.clew_c.proofs.Flats.{Written}
 use Rattle.clew_c.proofs.flat.numbers_of.Given as goal
 
 abbrev pub invariant-loop-t : goal.invariant-loop-t

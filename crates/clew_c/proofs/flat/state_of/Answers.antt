@@ -1,11 +1,8 @@
-use Prim.Native.Nat.{ℕ, ◌-◌, ◌+◌, ◌*◌}
 use mathlib.Core.Path.{refl, ap}
-use mathlib.Core.List.{List, [], ◌∷◌}
-use lib.ListN.{get_or, replicate}
-use borrow.Author.Rules.{rules}
+use mathlib.Core.List.{List}
 use Rattle.bands.specs.declared.band.Band.{Band}
-use Rattle.bands.specs.Band.{band, none}
-use Rattle.lists.proofs.Laid.{Laid, laid_none, laid_array_store, laid_array}
+use Rattle.bands.specs.Band.{none}
+use Rattle.lists.proofs.Laid.{laid_none, laid_array_store, laid_array}
 use Rattle.clew_c.specs.Flat.{state_of}
 use Rattle.clew_c.proofs.flat.state_of.Invariants.{two}
 use Rattle.clew_c.proofs.flat.state_of.Goals as goal

@@ -1,13 +1,10 @@
 -- `clew_c::flat::state_of` meets its contract. The loop's invariant: the bands of the first t tensors are laid.
 use Prim.Native.Nat.{ℕ, ◌-◌, ◌+◌, ◌*◌}
-use mathlib.Core.Path.{refl, ap}
 use mathlib.Core.List.{List, [], ◌∷◌}
 use lib.ListN.{get_or, replicate}
-use borrow.Author.Rules.{rules}
 use Rattle.bands.specs.declared.band.Band.{Band}
 use Rattle.bands.specs.Band.{band, none}
-use Rattle.lists.proofs.Laid.{Laid, laid_none, laid_array_store, laid_array}
-use Rattle.clew_c.specs.Flat.{state_of}
+use Rattle.lists.proofs.Laid.{Laid}
 use Rattle.clew_c.proofs.flat.state_of.Given as goal
 
 -- the band that the numbers have for tensor t

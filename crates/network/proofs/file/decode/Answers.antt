@@ -1,8 +1,6 @@
-use borrow.Author.Rules.{rules}
-use mathlib.Core.Path.{◌≡◌, refl}
+use mathlib.Core.Path.{refl}
 use native.Mathlib.Omega.{arith}
-use Rattle.network.specs.Decode.{steps_of}
-use Rattle.network.proofs.Layers.{Fine, fine_next, loop_starts, loop_turns, loop_ends, too_long}
+use Rattle.network.proofs.Layers.{fine_next, loop_starts, loop_turns, loop_ends, too_long}
 use Rattle.network.proofs.file.decode.Goals as goal
 
 pub returns-then-file-gt-FILE_MOST : goal.returns-then-file-gt-FILE_MOST

@@ -1,10 +1,8 @@
 -- `network::file::decode` meets its contract. The loop's invariant: the layers that are left, read from here, give what all of them give from the head,
 -- and the next record can be read. The measure is how many layers are left.
-use borrow.Author.Rules.{rules}
-use mathlib.Core.Path.{◌≡◌, refl}
-use native.Mathlib.Omega.{arith}
+use mathlib.Core.Path.{◌≡◌}
 use Rattle.network.specs.Decode.{steps_of}
-use Rattle.network.proofs.Layers.{Fine, fine_next, loop_starts, loop_turns, loop_ends, too_long}
+use Rattle.network.proofs.Layers.{Fine}
 use Rattle.network.proofs.file.decode.Given as goal
 
 abbrev pub invariant-loop-left : goal.invariant-loop-left

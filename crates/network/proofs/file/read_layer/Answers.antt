@@ -2,7 +2,6 @@
 use Rattle.std.proofs.Common.{ℕ, List}
 use Prim.Native.Nat.{◌+◌, ◌≤◌}
 use mathlib.Core.Path.{◌≡◌, sym, ◌∙◌, ap}
-use mathlib.Core.Logic.{⊎_elim}
 use lib.ListN.{length}
 use Rattle.fields.specs.Faults.{cut_fault}
 use Rattle.fields.proofs.Tests.{cut_there}
@@ -12,7 +11,6 @@ use Rattle.records.specs.declared.mark.Mark.{Mark}
 use Rattle.records.proofs.Answers.{stop, pass}
 use Rattle.network.specs.Network.{tensor_of}
 use Rattle.network.specs.Decode.{read_layer}
-use borrow.Author.Rules.{rules}
 use Rattle.network.proofs.file.read_layer.Goals as goal
 use Rattle.network.proofs.file.read_layer.Goals.{then-j-made, else-j-made}
 

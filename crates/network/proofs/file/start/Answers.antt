@@ -7,7 +7,6 @@ use native.Mathlib.Omega.{arith}
 use Rattle.network.specs.Decode.{started}
 use Rattle.network.specs.Head.{head_fault}
 use Rattle.network.proofs.Layers.{start_stopped, start_started, head_there}
-use borrow.Author.Rules.{rules}
 use Rattle.network.proofs.file.start.Goals as goal
 
 pub returns-then-fault-ne0 : goal.returns-then-fault-ne0

@@ -7,7 +7,6 @@ use native.Mathlib.Omega.{arith}
 use Rattle.network.specs.Head.{head_fault}
 use Rattle.fields.specs.Faults.{cut_fault}
 use Rattle.fields.proofs.Tests.{met, passed, cut_there}
-use borrow.Author.Rules.{rules}
 use Rattle.network.proofs.head.head_fault.Goals as goal
 
 pub returns-then-cut-ne0 : goal.returns-then-cut-ne0

@@ -3,15 +3,13 @@ use Rattle.std.proofs.Common.{ℕ}
 use mathlib.Core.Path.{◌≡◌, refl, sym, ◌∙◌, ap}
 use mathlib.Core.Bool.{true, false}
 use native.Mathlib.Omega.{arith}
-use borrow.Author.Tests.{eq-eqb, ne_eqb, not-true, not-false}
+use borrow.Author.Tests.{eq-eqb, ne_eqb}
 use lib.Dec.{eqb}
 use lib.ListN.{length}
-use Rattle.records.specs.Mark.{agreeing}
 use Rattle.records.specs.Layer.{sums_of, terms_of, record_len}
 use Rattle.records.specs.Reader.{record_fault}
 use Rattle.network.specs.Replace.{agree}
 use Rattle.network.proofs.Replaced.{agreeing_in, biases_in_record, tested}
-use borrow.Author.Rules.{rules}
 use Rattle.network.proofs.replace.replace_fault.Goals as goal
 
 -- the length is that of the record in place

@@ -1,8 +1,7 @@
-use Prim.Native.Nat.{◌-◌}
 use native.Mathlib.Omega.{arith}
 use Rattle.network.proofs.Bounds.{terms-few}
 use Rattle.checks.proofs.Rows.{input-good}
-use Rattle.updates.proofs.Fills.{Filled, fill_none, fill-turn, fill_done, weights-in}
+use Rattle.updates.proofs.Fills.{fill_none, fill-turn, fill_done, weights-in}
 use Rattle.updates.proofs.fill.fill_sums.Goals as goal
 
 pub loop-m-init : goal.loop-m-init

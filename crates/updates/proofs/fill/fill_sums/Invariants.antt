@@ -1,9 +1,6 @@
 -- `updates::fill::fill_sums` meets its contract. The loop's invariant: the sums of the first m layers are filled in.
 use Prim.Native.Nat.{◌-◌}
-use native.Mathlib.Omega.{arith}
-use Rattle.network.proofs.Bounds.{terms-few}
-use Rattle.checks.proofs.Rows.{input-good}
-use Rattle.updates.proofs.Fills.{Filled, fill_none, fill-turn, fill_done, weights-in}
+use Rattle.updates.proofs.Fills.{Filled}
 use Rattle.updates.proofs.fill.fill_sums.Given as goal
 
 abbrev pub invariant-loop-m : goal.invariant-loop-m

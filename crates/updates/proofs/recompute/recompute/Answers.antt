@@ -1,8 +1,8 @@
-use Prim.Native.Nat.{ℕ, ◌-◌, ◌<◌}
-use mathlib.Core.Path.{◌≡◌, sym, ◌∙◌}
+use Prim.Native.Nat.{ℕ}
+use mathlib.Core.Path.{sym, ◌∙◌}
 use native.Mathlib.Omega.{arith}
-use lib.ListN.{length, length-replicate}
-use Rattle.updates.proofs.Turns.{Sofar, turns-none, step-needs, turn-count, turns_more, turns-done}
+use lib.ListN.{length-replicate}
+use Rattle.updates.proofs.Turns.{turns-none, step-needs, turn-count, turns_more, turns-done}
 use Rattle.updates.proofs.recompute.recompute.Goals as goal
 
 pub loop-m-init : goal.loop-m-init

@@ -1,9 +1,8 @@
 -- `updates::recompute::recompute` meets its contract. The loop's invariant: the first m layers are recomputed.
-use Prim.Native.Nat.{ℕ, ◌-◌, ◌<◌}
-use mathlib.Core.Path.{◌≡◌, sym, ◌∙◌}
-use native.Mathlib.Omega.{arith}
-use lib.ListN.{length, length-replicate}
-use Rattle.updates.proofs.Turns.{Sofar, turns-none, step-needs, turn-count, turns_more, turns-done}
+use Prim.Native.Nat.{◌-◌}
+use mathlib.Core.Path.{◌≡◌}
+use lib.ListN.{length}
+use Rattle.updates.proofs.Turns.{Sofar}
 use Rattle.updates.proofs.recompute.recompute.Given as goal
 
 abbrev pub invariant-loop-m : goal.invariant-loop-m

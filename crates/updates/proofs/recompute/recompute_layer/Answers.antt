@@ -1,9 +1,6 @@
 -- `updates::recompute::recompute_layer` meets its contract: each need is a law of one layer's step.
-use Prim.Native.Nat.{◌≤◌}
 use mathlib.Core.Path.{sym}
 use native.Mathlib.Omega.{arith}
-use borrow.Author.Rules.{rules}
-use Rattle.updates.proofs.Fairs.{Fits}
 use Rattle.updates.proofs.Turns.{link-needs, inputs-there, grow-needs, front-size, row-needs, count-needs, ready-now, state-now, band-fits, count-now, area-now}
 use Rattle.updates.proofs.recompute.recompute_layer.Goals as goal
 
