@@ -5,7 +5,7 @@ if ! command -v rt > /dev/null; then
     exit 1
 fi
 machine=$(uname -m)
-kit=$(dirname "$(rt doc)")
+kit=$(dirname "$(rt doc < /dev/null)")
 toolchain=$kit/toolchain
 
 # The words of tools/targets.txt for a target, one to a line; none for a name that is not there.
@@ -20,7 +20,7 @@ sum_of() {
 
 # A sum of the kit and of all that a check reads.
 sum_of_sources() {
-    rt version | sha256sum | cut -c 1-16
+    rt version < /dev/null | sha256sum | cut -c 1-16
     find crates.txt crates -name out -prune -o -type f \( -path '*/src/*' -o -path '*/specs/*' -o -path '*/proofs/*' -o -name crates.txt \) -print0 | sum_of
 }
 
