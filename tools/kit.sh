@@ -36,7 +36,7 @@ is_noted() {
 
 # Of what rt says, what those who wait want to know, and why something is not proved.
 news() {
-    sed -n -e '/^rt: running/d' -e '/^rt:/p' -e '/error/p' -e '/^fn .*: \(not proved\|no proof\)/p' >&2
+    sed -n -e '/^rt: running/d' -e '/^rt:/p' -e '/error[:[]/p' -e '/^fn .*: \(not proved\|no proof\)/p' >&2
 }
 
 # Proves and makes the program of a crate, unless rt ci left it of the present sources, and prints its path.
