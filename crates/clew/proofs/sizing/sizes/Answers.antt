@@ -19,4 +19,4 @@ pub bytes_of-reading-requires : goal.bytes_of-reading-requires
 bytes_of-reading-requires c = rw c.tensor.ensures (small ((decoded_taken c.args.file.now c.decode-d.ensures c.if-d-ne0.false).shapes _ (le_refl _)))
 
 pub returns : goal.returns
-returns c = rw (sizes_taken c.args.file.now c.decode-d.ensures c.if-d-ne0.false, c.bytes_of-picture.ensures, c.bytes_of-reading.ensures, c.tensor.ensures)
+returns c = rw (sizes_taken c.args.file.now c.decode-d.ensures c.if-d-ne0.false, c.bytes_of-picture.ensures, ← c.tensor.ensures, ← c.bytes_of-reading.ensures)
