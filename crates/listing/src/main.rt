@@ -1,7 +1,7 @@
 // Reads a network on standard input and writes its listing. What cannot be read or written is said on standard error.
 #![tactic(auto)]
 
-use std::io::Read;
+use inputs::fill;
 
 // The listing of a file.
 fn write_listing(rt: &(impl Print + Eprint), file: &[u8]) {
@@ -12,11 +12,11 @@ fn write_listing(rt: &(impl Print + Eprint), file: &[u8]) {
     }
 }
 
-// A file of 65,537 bytes is refused as too long, whatever follows; with fewer it must have been read to its end.
+// A full buffer is refused as too long, whatever follows; with fewer bytes the input was read to its end.
 fn main(rt: HostRuntime) {
-    let mut file = Vec::new(rt.alloc());
-    match rt.reader().take(65537).read_to_end(&mut file) {
-        Ok(_) => write_listing(&rt, file.as_slice()),
+    let mut file = [0u8; 65537];
+    match fill(&mut rt.reader(), &mut file) {
+        Ok(n) => write_listing(&rt, &file[..n]),
         Err(_) => {
             let _ = eprintln!(rt; "listing: standard input cannot be read to its end");
         }

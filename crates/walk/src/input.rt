@@ -4,8 +4,8 @@ ghost use Rattle.std.specs.Io.{ReadsAtMost};
 
 use crate::print;
 use crate::print::Output;
+use inputs::fill;
 use std::env::FillError;
-use std::io::Read;
 use std::rt::{Env, Files};
 use std::{fs, io, str};
 
@@ -37,21 +37,6 @@ fn word(rt: &impl Env, i: usize, text: &mut [u8; 4096]) -> usize
         Ok(n) => n,
         Err(_) => 0,
     }
-}
-
-// Reads to the front of buf until it is full or the file ends.
-fn fill(file: &mut impl Read, buf: &mut [u8]) -> io::Result<usize>
-    ensures { ReadsAtMost result buf.new }
-{
-    let mut done = 0;
-    while done < buf.len() {
-        let n = file.read(&mut buf[done..])?;
-        if n == 0 {
-            break;
-        }
-        done += n;
-    }
-    Ok(done)
 }
 
 // The system's number for text in no encoding of its own, which stands for a file's name that is not UTF-8.

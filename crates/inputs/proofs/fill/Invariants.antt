@@ -1,6 +1,6 @@
 -- `fill` ends, since each turn leaves less to fill. Assumes nothing.
 use Rattle.std.proofs.Common.{◌≡◌, ◌-◌, ◌^◌, ◌<◌, ◌≤◌, length}
-use Rattle.walk.proofs.input.fill.Given as goal
+use Rattle.inputs.proofs.fill.Given as goal
 
 abbrev pub invariant-loop-done : goal.invariant-loop-done
 invariant-loop-done g l = (length l.buf ≡ length l.initial.buf) × (l.done ≤ length l.buf) × (length l.buf < 2 ^ 64)
