@@ -1,14 +1,18 @@
 // An input, read to the front of a buffer.
 #![tactic(auto)]
 
+ghost use Rattle.std.specs.Prelude.{◌<◌, length, take, IfOk};
 ghost use Rattle.std.specs.Io.{ReadsAtMost};
+ghost use Rattle.std.specs.Io.KnownBytes.{Consumes, IsAtEnd};
 
 use std::io;
 use std::io::Read;
 
-// Reads to the front of buf until it is full or the input ends, and says how much.
-pub fn fill(input: &mut impl Read, buf: &mut [u8]) -> io::Result<usize>
-    ensures { ReadsAtMost result buf.new }
+// Reads to the front of buf until it is full or the input ends, and says how much. After a read that failed nothing is said of what was read.
+pub fn fill<R: Read>(input: &mut R, buf: &mut [u8]) -> io::Result<usize>
+    ensures bound { ReadsAtMost result buf.new }
+    ensures bytes { IfOk result (λ n. Consumes (R.remaining input.old) (R.remaining input.new) (take n buf.new)) }
+    ensures end { IfOk result (λ n. n < length buf.new → IsAtEnd (R.remaining input.new)) }
 {
     let mut done = 0;
     while done < buf.len() {
