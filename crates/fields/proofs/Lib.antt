@@ -4,3 +4,4 @@ pub mod Shapes
 pub mod Signed
 pub mod Stores
 pub mod Tests
+pub mod Refusals

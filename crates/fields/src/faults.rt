@@ -1,131 +1,76 @@
-// Single faults: 0, or a refusal number.
+// The single tests of a record's fields. Each answers nothing where it holds, else the refusal.
 ghost use Rattle.std.specs.Prelude.{◌≡◌, ◌≤◌, length};
-ghost use Rattle.fields.specs.Bytes.{signed};
-ghost use Rattle.fields.specs.Faults.{first, within, shift_fault, multiplier_fault, bias_fault, clamp_fault, padding_fault, spare_fault, cut_fault};
+ghost use Rattle.refusals.specs.Refusal.{number_of, fault_of};
+ghost use Rattle.fields.specs.Faults.{unless, within, shift_fault, multiplier_fault, bias_fault, clamp_fault, padding_fault, spare_fault, cut_fault};
 
-// The first of two.
-pub fn first_of(a: u8, b: u8) -> u8
-    ensures { result ≡ first a b }
+use refusals::refusal::Refusal;
+
+// The refusal unless the test holds.
+pub fn unless(holds: bool, refusal: Refusal) -> Result<(), Refusal>
+    ensures { fault_of result ≡ unless holds (number_of refusal) }
 {
-    match a {
-        0 => b,
-        _ => a,
-    }
+    if holds { Ok(()) } else { Err(refusal) }
 }
 
 // n bytes stand at a place.
-pub fn cut_fault(s: &[u8], at: usize, n: usize) -> u8
+#[tactic(auto, unfolding(crate::specs::Faults::cut_fault))]
+pub fn cut_fault(s: &[u8], at: usize, n: usize) -> Result<(), Refusal>
     requires { at ≤ length s.now }
-    ensures { result ≡ cut_fault s.now at n }
+    ensures { fault_of result ≡ cut_fault s.now at n }
 {
-    if n <= s.len() - at { 0 } else { 1 }
+    unless(n <= s.len() - at, Refusal::Malformed)
 }
 
 // A spare is 0.
-pub fn spare_fault(x: u8) -> u8
-    ensures { result ≡ spare_fault x }
+#[tactic(auto, unfolding(crate::specs::Faults::spare_fault))]
+pub fn spare_fault(x: u8) -> Result<(), Refusal>
+    ensures { fault_of result ≡ spare_fault x }
 {
-    match x {
-        0 => 0,
-        _ => 1,
-    }
+    unless(x == 0, Refusal::Malformed)
 }
 
-// Filters, channels.
-pub fn one_to_64(x: u8) -> u8
-    ensures { result ≡ within 1 64 x }
+// A field from low to high.
+#[tactic(auto, unfolding(crate::specs::Faults::within))]
+pub fn within(low: u32, high: u32, x: u32) -> Result<(), Refusal>
+    ensures { fault_of result ≡ within low high x }
 {
-    match x {
-        1..=64 => 0,
-        _ => 2,
-    }
-}
-
-// Outputs, rows, columns.
-pub fn one_to_256(x: u16) -> u8
-    ensures { result ≡ within 1 256 x }
-{
-    match x {
-        1..=256 => 0,
-        _ => 2,
-    }
-}
-
-// The number of layers.
-pub fn layers_fault(x: u8) -> u8
-    ensures { result ≡ within 1 16 x }
-{
-    match x {
-        1..=16 => 0,
-        _ => 2,
-    }
-}
-
-// A side of a kernel.
-pub fn kernel_fault(x: u8) -> u8
-    ensures { result ≡ within 1 7 x }
-{
-    match x {
-        1..=7 => 0,
-        _ => 2,
-    }
-}
-
-// A stride.
-pub fn stride_fault(x: u8) -> u8
-    ensures { result ≡ within 1 4 x }
-{
-    match x {
-        1..=4 => 0,
-        _ => 2,
-    }
+    unless(low <= x && x <= high, Refusal::OutOfRange)
 }
 
 // A shift.
-pub fn shift_fault(x: u8) -> u8
-    ensures { result ≡ shift_fault x }
+pub fn shift_fault(x: u8) -> Result<(), Refusal>
+    ensures { fault_of result ≡ shift_fault x }
 {
-    match x {
-        0..=31 => 0,
-        _ => 2,
-    }
+    within(0, 31, u32::from(x))
 }
 
 // A multiplier: from 2^30 to 2^31 - 1.
-pub fn multiplier_fault(x: u32) -> u8
-    ensures { result ≡ multiplier_fault x }
+pub fn multiplier_fault(x: u32) -> Result<(), Refusal>
+    ensures { fault_of result ≡ multiplier_fault x }
 {
-    match x {
-        1073741824..=2147483647 => 0,
-        _ => 2,
-    }
+    within(0x4000_0000, 0x7fff_ffff, x)
 }
 
-// A bias, as the four bytes of the file make it: from -2^30 to 2^30.
-pub fn bias_fault(x: u32) -> u8
-    ensures { result ≡ bias_fault (signed x) }
+// A bias: from -2^30 to 2^30.
+#[tactic(auto, unfolding(crate::specs::Faults::bias_fault))]
+pub fn bias_fault(b: i32) -> Result<(), Refusal>
+    ensures { fault_of result ≡ bias_fault b }
 {
-    match x {
-        0..=1073741824 => 0,
-        3221225472..=4294967295 => 0,
-        _ => 2,
-    }
+    unless(b.unsigned_abs() <= 0x4000_0000, Refusal::OutOfRange)
 }
 
 // The clamp's low is at most its high.
-pub fn clamp_fault(low: u8, high: u8) -> u8
-    ensures { result ≡ clamp_fault low high }
+#[tactic(auto, unfolding(crate::specs::Faults::clamp_fault))]
+pub fn clamp_fault(low: u8, high: u8) -> Result<(), Refusal>
+    ensures { fault_of result ≡ clamp_fault low high }
 {
-    if low <= high { 0 } else { 2 }
+    unless(low <= high, Refusal::OutOfRange)
 }
 
 // A padding is below both sides of its kernel.
-pub fn padding_fault(p: u8, rows: u8, columns: u8) -> u8
-    ensures { result ≡ padding_fault p rows columns }
+#[tactic(auto, unfolding(crate::specs::Faults::padding_fault))]
+pub fn padding_fault(p: u8, rows: u8, columns: u8) -> Result<(), Refusal>
+    ensures { fault_of result ≡ padding_fault p rows columns }
 {
-    if p < rows {
-        if p < columns { 0 } else { 2 }
-    } else {
-        2
-    }
+    unless(p < rows && p < columns, Refusal::OutOfRange)
 }

@@ -1,0 +1,26 @@
+-- A refusal's number is never 0, so the first of it and of what follows is that number; after a test that held what follows decides.
+-- Assumes nothing.
+use Rattle.std.proofs.Common.{ℕ, ◌≡◌, refl}
+use Rattle.fields.specs.Faults.{first}
+use Rattle.refusals.specs.Refusal.{number_of}
+use Rattle.refusals.specs.declared.refusal.Refusal.{Refusal}
+use Rattle.refusals.specs.declared.refusal.Refusal.TheVariants.{Malformed, OutOfRange, Unfit, NoRoom, BadBands, BadSums, BadArguments, Stale, BadRecord}
+
+pub first_number : (e : Refusal) (b : ℕ) → first (number_of e) b ≡ number_of e
+unfolding first
+first_number Malformed b = refl
+first_number OutOfRange b = refl
+first_number Unfit b = refl
+first_number NoRoom b = refl
+first_number BadBands b = refl
+first_number BadSums b = refl
+first_number BadArguments b = refl
+first_number Stale b = refl
+first_number BadRecord b = refl
+
+pub first_passed : (b : ℕ) → first 0 b ≡ b
+unfolding first
+first_passed b = refl
+
+-- with these the tests of a function that makes them one after another are the definition's list
+pub ruleset in_order = (first_number, first_passed)
