@@ -14,8 +14,8 @@ use Rattle.fields.specs.Faults.{first}
 use Rattle.fields.specs.Bytes.{byte_at}
 use Rattle.fields.specs.Asked.{GoodShape}
 use Rattle.records.specs.declared.layer.Layer.{Layer}
-use Rattle.records.specs.declared.reader.Read.{Read}
-use Rattle.records.specs.declared.reader.Read.TheVariants.{Refused, Found}
+use Rattle.records.specs.Reader.{Read}
+use Rattle.records.specs.Reader.{Refused, Found}
 use Rattle.fields.proofs.Tests.{first_both}
 use Rattle.network.specs.Network.{blank_shape, blank_layer, empty_network, layer_of, tensor_of}
 use Rattle.network.specs.Head.{picture_at, head_fault}

@@ -19,8 +19,8 @@ use Rattle.records.specs.declared.layer.Layer.{Layer}
 use Rattle.records.specs.declared.mark.Mark.{Mark}
 use Rattle.records.specs.declared.mark.Mark.TheVariants.{CV, FU, AD, Other}
 use Rattle.records.specs.declared.reader.Before.{Before}
-use Rattle.records.specs.declared.reader.Read.{Read}
-use Rattle.records.specs.declared.reader.Read.TheVariants.{Refused, Found}
+use Rattle.records.specs.Reader.{Read}
+use Rattle.records.specs.Reader.{Refused, Found}
 use Rattle.network.specs.Head.{picture_at, head_mark, head_fault}
 use Rattle.network.specs.Decode.{read_layer, stopped, started, start_of, pushed, step_read, step_from, step_of, steps_of, end_fault, decoded_as, whole_of, decode_of}
 use Rattle.network.specs.declared.net.Network.{Network}

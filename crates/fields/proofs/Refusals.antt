@@ -2,11 +2,11 @@
 -- Assumes nothing.
 use Rattle.std.proofs.Common.{ℕ, ◌≡◌, refl}
 use Rattle.fields.specs.Faults.{first}
-use Rattle.refusals.specs.Refusal.{number_of}
+use Rattle.refusals.specs.Refusal.{refusal_number}
 use Rattle.refusals.specs.declared.refusal.Refusal.{Refusal}
 use Rattle.refusals.specs.declared.refusal.Refusal.TheVariants.{Malformed, OutOfRange, Unfit, NoRoom, BadBands, BadSums, BadArguments, Stale, BadRecord}
 
-pub first_number : (e : Refusal) (b : ℕ) → first (number_of e) b ≡ number_of e
+pub first_number : (e : Refusal) (b : ℕ) → first (refusal_number e) b ≡ refusal_number e
 unfolding first
 first_number Malformed b = refl
 first_number OutOfRange b = refl

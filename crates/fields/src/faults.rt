@@ -1,13 +1,13 @@
 // The single tests of a record's fields. Each answers nothing where it holds, else the refusal.
 ghost use Rattle.std.specs.Prelude.{◌≡◌, ◌≤◌, length};
-ghost use Rattle.refusals.specs.Refusal.{number_of, fault_of};
+ghost use Rattle.refusals.specs.Refusal.{refusal_number, fault_of};
 ghost use Rattle.fields.specs.Faults.{unless, within, shift_fault, multiplier_fault, bias_fault, clamp_fault, padding_fault, spare_fault, cut_fault};
 
 use refusals::refusal::Refusal;
 
 // The refusal unless the test holds.
 pub fn unless(holds: bool, refusal: Refusal) -> Result<(), Refusal>
-    ensures { fault_of result ≡ unless holds (number_of refusal) }
+    ensures { fault_of result ≡ unless holds (refusal_number refusal) }
 {
     if holds { Ok(()) } else { Err(refusal) }
 }

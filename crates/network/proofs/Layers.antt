@@ -12,8 +12,8 @@ use Rattle.fields.specs.Bytes.{byte_at}
 use Rattle.fields.specs.Shape.{bytes_of}
 use Rattle.fields.specs.Asked.{GoodShape}
 use Rattle.records.specs.declared.layer.Layer.{Layer}
-use Rattle.records.specs.declared.reader.Read.{Read}
-use Rattle.records.specs.declared.reader.Read.TheVariants.{Refused, Found}
+use Rattle.records.specs.Reader.{Read}
+use Rattle.records.specs.Reader.{Refused, Found}
 use Rattle.fields.proofs.Tests.{first_both, within_in, cut_there}
 use Rattle.fields.proofs.Shapes.{size_in, good_shape}
 use Rattle.records.proofs.Answers.{Answered}

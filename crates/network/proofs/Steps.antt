@@ -11,8 +11,8 @@ use lib.ListN.{length, length-set}
 use lib.Seq.{get_or-set_same, get_or-set_other}
 use Rattle.fields.specs.Faults.{first}
 use Rattle.records.specs.declared.layer.Layer.{Layer}
-use Rattle.records.specs.declared.reader.Read.{Read}
-use Rattle.records.specs.declared.reader.Read.TheVariants.{Refused, Found}
+use Rattle.records.specs.Reader.{Read}
+use Rattle.records.specs.Reader.{Refused, Found}
 use Rattle.records.proofs.Answers.{Answered}
 use Rattle.network.specs.Network.{blank_layer, layer_of}
 use Rattle.network.specs.Decode.{read_layer, start_of, stopped, pushed, step_read, step_from, step_of, steps_of, end_fault, decoded_as, whole_of, decode_of}

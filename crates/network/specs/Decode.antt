@@ -13,8 +13,8 @@ use Rattle.records.specs.declared.layer.Kind.{Kind}
 use Rattle.records.specs.declared.layer.Layer.{Layer}
 use Rattle.records.specs.declared.mark.Mark.{Mark}
 use Rattle.records.specs.declared.reader.Before.{Before}
-use Rattle.records.specs.declared.reader.Read.{Read}
-use Rattle.records.specs.declared.reader.Read.TheVariants.{Refused, Found}
+use Rattle.records.specs.Reader.{Read}
+use Rattle.records.specs.Reader.{Refused, Found}
 use Rattle.network.specs.Network.{blank_shape, empty_network, tensor_of}
 use Rattle.network.specs.Head.{picture_at, head_fault}
 use Rattle.network.specs.declared.net.Network.{Network}

@@ -1,7 +1,7 @@
 -- What a record's reader answers.
 -- Assumes nothing.
 use Prim.Native.Nat.{ℕ, zero, suc, ◌+◌, ◌*◌, ◌^◌, ◌≤◌, ◌<◌}
-use mathlib.Core.Path.{◌≡◌, refl, sym, ◌∙◌, ap, subst⁻¹}
+use mathlib.Core.Path.{◌≡◌, refl, ◌∙◌, ap, subst⁻¹}
 use mathlib.Core.List.{List}
 use native.Mathlib.Omega.{arith}
 use lib.IntN.{nat_abs}
@@ -11,41 +11,59 @@ use Rattle.fields.specs.Faults.{first, cut_fault}
 use Rattle.fields.specs.Shape.{bytes_of, size_fault}
 use Rattle.fields.specs.Asked.{GoodShape}
 use Rattle.fields.specs.declared.shape.Shape.{Shape}
-use Rattle.fields.proofs.Tests.{met, passed, first_both, first-none, cut_there}
+use Rattle.fields.proofs.Tests.{first_both, first-none, cut_there, there_cut}
 use Rattle.fields.proofs.Shapes.{size_in}
 use Rattle.fields.proofs.Stores.{stored_in}
 use Rattle.records.specs.Mark.{fixed_len}
 use Rattle.records.specs.Layer.{sums_of, terms_of, output_shape, record_len}
 use Rattle.records.specs.Asked.{KindOk}
-use Rattle.records.specs.Reader.{kind_at, own_fault, suit_fault, stored_after, layer_with, answer, read_as}
+use Rattle.records.specs.Reader.{kind_at, own_fault, suit_fault, stored_after, layer_with, Read, Refused, Found, answer, read_as}
 use Rattle.records.specs.declared.layer.Kind.{Kind}
 use Rattle.records.specs.declared.layer.Layer.{Layer}
 use Rattle.records.specs.declared.mark.Mark.{Mark}
 use Rattle.records.specs.declared.reader.Before.{Before}
-use Rattle.records.specs.declared.reader.Read.{Read}
-use Rattle.records.specs.declared.reader.Read.TheVariants.{Refused, Found}
+use Rattle.refusals.specs.Refusal.{refusal_number}
+use Rattle.refusals.specs.declared.refusal.Refusal.{Refusal}
+use Rattle.refusals.specs.declared.refusal.Refusal.TheVariants.{Malformed, OutOfRange, Unfit, NoRoom, BadBands, BadSums, BadArguments, Stale, BadRecord}
 use Rattle.records.proofs.Ranges.{own_ok, sums_few, output_good}
 
 pub answer_found : (f : ℕ) (l : Layer) (n : ℕ) → f ≡ 0 → answer f l n ≡ Found l n
 unfolding answer
 answer_found f l n p = rw p
 
-pub answer_refused : (f : ℕ) (l : Layer) (n : ℕ) → (f ≡ 0 → ⊥) → answer f l n ≡ Refused f
+-- a refusal's number answers itself
+pub answer_number : (e : Refusal) (l : Layer) (n : ℕ) → answer (refusal_number e) l n ≡ Refused (refusal_number e)
 unfolding answer
-answer_refused zero l n p = absurd (p refl)
-answer_refused (suc f) l n p = refl
+answer_number Malformed l n = refl
+answer_number OutOfRange l n = refl
+answer_number Unfit l n = refl
+answer_number NoRoom l n = refl
+answer_number BadBands l n = refl
+answer_number BadSums l n = refl
+answer_number BadArguments l n = refl
+answer_number Stale l n = refl
+answer_number BadRecord l n = refl
 
--- a fault is met, and nothing after it counts; or none is, and the rest decides
-pub stop : (r a b : ℕ) (l : Layer) (n : ℕ) → r ≡ a → (r ≡ 0 → ⊥) → Refused r ≡ answer (first a b) l n
-stop r a b l n e p = sym (answer_refused r l n p) ∙ ap (λ (x : ℕ). answer x l n) (met r a b e p)
+pub answer_none : (l : Layer) (n : ℕ) → answer 0 l n ≡ Found l n
+unfolding answer
+answer_none l n = refl
 
-pub pass :
-    (r a b : ℕ) (l : Layer) (n : ℕ) (x : Read) →
-    r ≡ a →
-    r ≡ 0 →
-    x ≡ answer b l n →
-    x ≡ answer (first a b) l n
-pass r a b l n x e p h = h ∙ ap (λ (y : ℕ). answer y l n) (passed r a b b e p refl)
+pub ruleset answered = (answer_number, answer_none)
+
+-- of a record whose fixed part is there and in its ranges the other tests decide
+pub read_fit :
+    (m : Mark) (k : Kind) (s : List ℕ) (at : ℕ) (b : Before) (other : Shape) →
+    at + fixed_len m ≤ length s →
+    own_fault m s at ≡ 0 →
+    read_as m k s at b other ≡
+    answer
+    (first (suit_fault k b other) (first (size_fault (output_shape k b.input) b.area) (stored_after s (layer_with m k at b))))
+    (layer_with m k at b)
+    (at + record_len (layer_with m k at b))
+unfolding read_as
+read_fit m k s at b other h o =
+    ap (λ f. answer f (layer_with m k at b) (at + record_len (layer_with m k at b)))
+    (first-none _ _ (there_cut _ _ _ h) ∙ first-none _ _ o)
 
 -- what holds of the layer and of the next record's place, where the record is not refused
 abbrev pub Answered : (Layer → ℕ → Type 0) → Read → Type 0

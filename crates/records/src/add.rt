@@ -1,15 +1,17 @@
 // The add record: mark 41 44, 22 bytes.
 ghost use Rattle.std.specs.Prelude.{◌≡◌, ◌+◌, ◌≤◌, length};
+ghost use Rattle.refusals.specs.Refusal.{fault_of};
 ghost use Rattle.records.specs.Mark.{fixed_len};
 ghost use Rattle.records.specs.Add.{add_at, add_fields};
 ghost use Rattle.records.specs.declared.mark.Mark.TheVariants.{AD};
 
 use crate::layer::Scale;
 use fields::bytes::u32_at;
-use fields::faults::{clamp_fault, first_of, multiplier_fault, shift_fault};
+use fields::faults::{clamp_fault, multiplier_fault, shift_fault};
+use refusals::refusal::Refusal;
 
 // `first` rescales tensor k − 1, `second` tensor `other`, and `third` their sum.
-#[derive(Clone, Copy)]
+#[derive(Clone, Copy, Debug, PartialEq, Eq)]
 pub struct Add {
     pub other: u8,
     pub zero: u8,
@@ -25,39 +27,36 @@ pub fn add_at(s: &[u8], at: usize) -> Add
     requires { at + fixed_len AD ≤ length s.now }
     ensures { result ≡ add_at s.now at }
 {
-    let first = u32_at(s, at + 6);
-    let second = u32_at(s, at + 10);
-    let third = u32_at(s, at + 14);
     Add {
         other: s[at + 2],
         zero: s[at + 3],
         low: s[at + 4],
         high: s[at + 5],
         first: Scale {
-            multiplier: first,
+            multiplier: u32_at(s, at + 6),
             shift: s[at + 18],
         },
         second: Scale {
-            multiplier: second,
+            multiplier: u32_at(s, at + 10),
             shift: s[at + 19],
         },
         third: Scale {
-            multiplier: third,
+            multiplier: u32_at(s, at + 14),
             shift: s[at + 20],
         },
     }
 }
 
 // The fields in file order.
-pub fn add_fields(a: Add) -> u8
-    ensures { result ≡ add_fields a }
+#[tactic(auto, using(fields::proofs::Refusals::in_order))]
+pub fn add_fields(a: Add) -> Result<(), Refusal>
+    ensures { fault_of result ≡ add_fields a }
 {
-    let ends = first_of(shift_fault(a.second.shift), shift_fault(a.third.shift));
-    let shifts = first_of(shift_fault(a.first.shift), ends);
-    let last = first_of(multiplier_fault(a.third.multiplier), shifts);
-    let scales = first_of(multiplier_fault(a.second.multiplier), last);
-    first_of(
-        clamp_fault(a.low, a.high),
-        first_of(multiplier_fault(a.first.multiplier), scales),
-    )
+    clamp_fault(a.low, a.high)?;
+    multiplier_fault(a.first.multiplier)?;
+    multiplier_fault(a.second.multiplier)?;
+    multiplier_fault(a.third.multiplier)?;
+    shift_fault(a.first.shift)?;
+    shift_fault(a.second.shift)?;
+    shift_fault(a.third.shift)
 }

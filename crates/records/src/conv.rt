@@ -1,5 +1,6 @@
 // The convolution record: mark 43 56, 16 bytes, biases, weights by filter, row, column, channel.
 ghost use Rattle.std.specs.Prelude.{◌≡◌, ◌+◌, ◌≤◌, length};
+ghost use Rattle.refusals.specs.Refusal.{fault_of};
 ghost use Rattle.records.specs.Mark.{fixed_len};
 ghost use Rattle.records.specs.Conv.{blank_conv, conv_at, conv_fields};
 ghost use Rattle.records.specs.declared.mark.Mark.TheVariants.{CV};
@@ -7,10 +8,11 @@ ghost use Rattle.records.specs.declared.mark.Mark.TheVariants.{CV};
 use crate::frame::{Frame, frame_fields};
 use crate::layer::Scale;
 use crate::weighing::{Weighing, weighing_at, weighing_fields};
-use fields::faults::{first_of, one_to_64};
+use fields::faults::within;
+use refusals::refusal::Refusal;
 
 // The parameters of a convolution.
-#[derive(Clone, Copy)]
+#[derive(Clone, Copy, Debug, PartialEq, Eq)]
 pub struct Conv {
     pub filters: u8,
     pub frame: Frame,
@@ -47,7 +49,6 @@ pub fn conv_at(s: &[u8], at: usize) -> Conv
     requires { at + fixed_len CV ≤ length s.now }
     ensures { result ≡ conv_at s.now at }
 {
-    let weighing = weighing_at(s, at + 7, at + 12);
     Conv {
         filters: s[at + 2],
         frame: Frame {
@@ -56,16 +57,16 @@ pub fn conv_at(s: &[u8], at: usize) -> Conv
             stride: s[at + 5],
             padding: s[at + 6],
         },
-        weighing,
+        weighing: weighing_at(s, at + 7, at + 12),
     }
 }
 
 // The fields in file order.
-pub fn conv_fields(c: Conv) -> u8
-    ensures { result ≡ conv_fields c }
+#[tactic(auto, using(fields::proofs::Refusals::in_order))]
+pub fn conv_fields(c: Conv) -> Result<(), Refusal>
+    ensures { fault_of result ≡ conv_fields c }
 {
-    let frame = c.frame;
-    let weighing = c.weighing;
-    let rest = first_of(frame_fields(frame), weighing_fields(weighing));
-    first_of(one_to_64(c.filters), rest)
+    within(1, 64, u32::from(c.filters))?;
+    frame_fields(c.frame)?;
+    weighing_fields(c.weighing)
 }

@@ -1,15 +1,17 @@
 // The frame of a windowed layer: its kernel, its stride and its padding.
 ghost use Rattle.std.specs.Prelude.{◌≡◌};
 ghost use Rattle.fields.specs.Asked.{GoodShape, SmallShape};
+ghost use Rattle.refusals.specs.Refusal.{fault_of};
 ghost use Rattle.records.specs.Frame.{frame_fields, fits, frame_output};
 ghost use Rattle.records.specs.Asked.{FrameOk, FrameFits};
 
-use fields::faults::{first_of, kernel_fault, padding_fault, stride_fault};
+use fields::faults::{padding_fault, within};
 use fields::shape::Shape;
 use numbers::stride::strides_in;
+use refusals::refusal::Refusal;
 
 // Kernel rows are `height` and kernel columns `width`.
-#[derive(Clone, Copy)]
+#[derive(Clone, Copy, Debug, PartialEq, Eq)]
 pub struct Frame {
     pub height: u8,
     pub width: u8,
@@ -18,27 +20,24 @@ pub struct Frame {
 }
 
 // The fields in file order.
-pub fn frame_fields(f: Frame) -> u8
-    ensures { result ≡ frame_fields f }
+#[tactic(auto, using(fields::proofs::Refusals::in_order))]
+pub fn frame_fields(f: Frame) -> Result<(), Refusal>
+    ensures { fault_of result ≡ frame_fields f }
 {
-    let padding = padding_fault(f.padding, f.height, f.width);
-    let steps = first_of(stride_fault(f.stride), padding);
-    first_of(
-        kernel_fault(f.height),
-        first_of(kernel_fault(f.width), steps),
-    )
+    within(1, 7, u32::from(f.height))?;
+    within(1, 7, u32::from(f.width))?;
+    within(1, 4, u32::from(f.stride))?;
+    padding_fault(f.padding, f.height, f.width)
 }
 
 // Whether each padded side of the input is at least the kernel's.
+#[tactic(auto, unfolding(crate::specs::Frame::fits))]
 pub fn frame_fits(f: Frame, input: Shape) -> bool
     requires { GoodShape input }
     ensures { result ≡ fits f input }
 {
     let twice = 2 * f.padding as usize;
-    if f.height as usize <= input.rows + twice {
-        return f.width as usize <= input.columns + twice;
-    }
-    false
+    f.height as usize <= input.rows + twice && f.width as usize <= input.columns + twice
 }
 
 // The output's shape, with so many channels.

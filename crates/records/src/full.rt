@@ -1,17 +1,19 @@
 // The full record: mark 46 55, 14 bytes, biases, weights by output and then in the input tensor's storage order.
 ghost use Rattle.std.specs.Prelude.{◌≡◌, ◌+◌, ◌≤◌, length};
 ghost use Rattle.fields.specs.Asked.{SmallShape};
+ghost use Rattle.refusals.specs.Refusal.{fault_of};
 ghost use Rattle.records.specs.Mark.{fixed_len};
 ghost use Rattle.records.specs.Full.{full_at, full_fields, full_output};
 ghost use Rattle.records.specs.declared.mark.Mark.TheVariants.{FU};
 
 use crate::weighing::{Weighing, weighing_at, weighing_fields};
 use fields::bytes::u16_at;
-use fields::faults::{first_of, one_to_256};
+use fields::faults::within;
 use fields::shape::Shape;
+use refusals::refusal::Refusal;
 
 // The parameters of a full layer.
-#[derive(Clone, Copy)]
+#[derive(Clone, Copy, Debug, PartialEq, Eq)]
 pub struct Full {
     pub outputs: u16,
     pub weighing: Weighing,
@@ -22,17 +24,19 @@ pub fn full_at(s: &[u8], at: usize) -> Full
     requires { at + fixed_len FU ≤ length s.now }
     ensures { result ≡ full_at s.now at }
 {
-    let outputs = u16_at(s, at + 2);
-    let weighing = weighing_at(s, at + 4, at + 10);
-    Full { outputs, weighing }
+    Full {
+        outputs: u16_at(s, at + 2),
+        weighing: weighing_at(s, at + 4, at + 10),
+    }
 }
 
 // The fields in file order.
-pub fn full_fields(f: Full) -> u8
-    ensures { result ≡ full_fields f }
+#[tactic(auto, using(fields::proofs::Refusals::in_order))]
+pub fn full_fields(f: Full) -> Result<(), Refusal>
+    ensures { fault_of result ≡ full_fields f }
 {
-    let weighing = f.weighing;
-    first_of(one_to_256(f.outputs), weighing_fields(weighing))
+    within(1, 256, u32::from(f.outputs))?;
+    weighing_fields(f.weighing)
 }
 
 // 1 row, 1 column and a channel per output.

@@ -12,14 +12,14 @@ use fields::shape::{Shape, bytes_of};
 use fields::stored::stored_len;
 
 // A multiplier and a shift, by which a total is rescaled.
-#[derive(Clone, Copy)]
+#[derive(Clone, Copy, Debug, PartialEq, Eq)]
 pub struct Scale {
     pub multiplier: u32,
     pub shift: u8,
 }
 
 // The kinds of layer, each with its parameters.
-#[derive(Clone, Copy)]
+#[derive(Clone, Copy, Debug, PartialEq, Eq)]
 pub enum Kind {
     Conv(Conv),
     Full(Full),
@@ -28,7 +28,7 @@ pub enum Kind {
 
 // Its record begins in the file at `start`, its output tensor in the area at `place`, its sums in the store at `sums`. The
 // mark stands last, where it costs a network's copies least.
-#[derive(Clone, Copy)]
+#[derive(Clone, Copy, Debug, PartialEq, Eq)]
 pub struct Layer {
     pub input: Shape,
     pub output: Shape,
@@ -55,8 +55,7 @@ pub fn other_of(kind: Kind, m: usize) -> usize
     ensures { result ≡ other_of kind m }
 {
     match kind {
-        Kind::Conv(_) => m,
-        Kind::Full(_) => m,
+        Kind::Conv(_) | Kind::Full(_) => m,
         Kind::Add(a) => a.other as usize,
     }
 }
@@ -78,9 +77,7 @@ pub fn terms_of(y: Layer) -> usize
     requires { GoodShape y.input }
     ensures { (result ≡ terms_of y.kind y.input) × (result ≤ 16777216) }
 {
-    let kind = y.kind;
-    let input = y.input;
-    terms_by(kind, input)
+    terms_by(y.kind, y.input)
 }
 
 // Where a layer's biases begin in the file.
@@ -88,8 +85,7 @@ pub fn biases_at(y: Layer) -> usize
     requires { y.start ≤ file_most }
     ensures { (result ≡ biases_at y) × (result ≤ 65558) }
 {
-    let mark = y.mark;
-    y.start + fixed_len(mark)
+    y.start + fixed_len(y.mark)
 }
 
 // Where its weights begin.
@@ -97,8 +93,7 @@ pub fn weights_at(y: Layer) -> usize
     requires { y.start ≤ file_most }
     ensures { result ≡ weights_at y }
 {
-    let kind = y.kind;
-    biases_at(y) + 4 * sums_of(kind)
+    biases_at(y) + 4 * sums_of(y.kind)
 }
 
 // The bytes of its whole record.
@@ -106,7 +101,5 @@ pub fn record_len(y: Layer) -> usize
     requires { GoodShape y.input }
     ensures { (result ≡ record_len y) × (result ≤ 3000000000000) }
 {
-    let mark = y.mark;
-    let kind = y.kind;
-    fixed_len(mark) + stored_len(sums_of(kind), terms_of(y))
+    fixed_len(y.mark) + stored_len(sums_of(y.kind), terms_of(y))
 }

@@ -3,7 +3,7 @@ ghost use Rattle.std.specs.Prelude.{◌≡◌, ◌+◌, ◌≤◌, length, get_o
 ghost use Rattle.records.specs.Mark.{is_mark, mark_at, fixed_len, agreeing};
 
 // Which layer's record a mark begins.
-#[derive(Clone, Copy)]
+#[derive(Clone, Copy, Debug, PartialEq, Eq)]
 pub enum Mark {
     CV,
     FU,
@@ -12,14 +12,12 @@ pub enum Mark {
 }
 
 // Whether the mark m stands at a place.
+#[tactic(auto, unfolding(crate::specs::Mark::is_mark))]
 pub fn is_mark(s: &[u8], at: usize, m: &[u8; 2]) -> bool
     requires { at + 2 ≤ length s.now }
     ensures { result ≡ is_mark s.now at (get_or m.now 0 0) (get_or m.now 1 0) }
 {
-    if s[at] == m[0] {
-        return s[at + 1] == m[1];
-    }
-    false
+    s[at..at + 2] == m[..]
 }
 
 // The mark at a place, Other where it is cut or unknown.

@@ -1,13 +1,15 @@
 // What a convolution and a full layer have in common.
 ghost use Rattle.std.specs.Prelude.{◌≡◌, ◌+◌, ◌≤◌, length};
+ghost use Rattle.refusals.specs.Refusal.{fault_of};
 ghost use Rattle.records.specs.Weighing.{weighing_at, weighing_fields};
 
 use crate::layer::Scale;
 use fields::bytes::u32_at;
-use fields::faults::{clamp_fault, first_of, multiplier_fault, shift_fault};
+use fields::faults::{clamp_fault, multiplier_fault, shift_fault};
+use refusals::refusal::Refusal;
 
 // v is the weight zero-point and zero the output's.
-#[derive(Clone, Copy)]
+#[derive(Clone, Copy, Debug, PartialEq, Eq)]
 pub struct Weighing {
     pub v: u8,
     pub zero: u8,
@@ -21,26 +23,24 @@ pub fn weighing_at(s: &[u8], from: usize, multiplier: usize) -> Weighing
     requires { (from + 5 ≤ length s.now) × (multiplier + 4 ≤ length s.now) }
     ensures { result ≡ weighing_at s.now from multiplier }
 {
-    let multiplier = u32_at(s, multiplier);
     Weighing {
         v: s[from],
         zero: s[from + 1],
         low: s[from + 2],
         high: s[from + 3],
         scale: Scale {
-            multiplier,
+            multiplier: u32_at(s, multiplier),
             shift: s[from + 4],
         },
     }
 }
 
 // The fields in file order.
-pub fn weighing_fields(w: Weighing) -> u8
-    ensures { result ≡ weighing_fields w }
+#[tactic(auto, using(fields::proofs::Refusals::in_order))]
+pub fn weighing_fields(w: Weighing) -> Result<(), Refusal>
+    ensures { fault_of result ≡ weighing_fields w }
 {
-    let scale = first_of(
-        shift_fault(w.scale.shift),
-        multiplier_fault(w.scale.multiplier),
-    );
-    first_of(clamp_fault(w.low, w.high), scale)
+    clamp_fault(w.low, w.high)?;
+    shift_fault(w.scale.shift)?;
+    multiplier_fault(w.scale.multiplier)
 }

@@ -6,22 +6,22 @@ use Rattle.refusals.specs.declared.refusal.Refusal.TheVariants.{Malformed, OutOf
 use Rattle.refusals.specs.declared.refusal.NoRefusal.{NoRefusal}
 
 -- the number by which callers know it
-abbrev pub number_of : Refusal → ℕ
-number_of Malformed = 1
-number_of OutOfRange = 2
-number_of Unfit = 3
-number_of NoRoom = 4
-number_of BadBands = 5
-number_of BadSums = 6
-number_of BadArguments = 7
-number_of Stale = 8
-number_of BadRecord = 9
+abbrev pub refusal_number : Refusal → ℕ
+refusal_number Malformed = 1
+refusal_number OutOfRange = 2
+refusal_number Unfit = 3
+refusal_number NoRoom = 4
+refusal_number BadBands = 5
+refusal_number BadSums = 6
+refusal_number BadArguments = 7
+refusal_number Stale = 8
+refusal_number BadRecord = 9
 
 -- 0, or the number of the refusal
 abbrev pub fault_of : {A : Type 0} → Result A Refusal → ℕ
 fault_of (Ok x) = 0
-fault_of (Err refusal) = number_of refusal
+fault_of (Err refusal) = refusal_number refusal
 
 -- the refusal with this number, or an error with a number that none has
 abbrev pub Numbers : ℕ → Result Refusal NoRefusal → Type 0
-Numbers n r = MatchResult r (λ refusal. number_of refusal ≡ n) (λ e. (e.0 ≡ n) × ((n ≡ 0) ⊎ (9 < n)))
+Numbers n r = MatchResult r (λ refusal. refusal_number refusal ≡ n) (λ e. (e.0 ≡ n) × ((n ≡ 0) ⊎ (9 < n)))

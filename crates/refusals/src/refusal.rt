@@ -1,6 +1,6 @@
 // The nine refusals, in the order of their numbers.
 ghost use Rattle.std.specs.Prelude.{◌≡◌, ◌≤◌};
-ghost use Rattle.refusals.specs.Refusal.{number_of, Numbers};
+ghost use Rattle.refusals.specs.Refusal.{refusal_number, Numbers};
 
 use std::error::Error;
 use std::fmt;
@@ -22,7 +22,7 @@ pub enum Refusal {
 impl Refusal {
     /// The number by which callers know it.
     pub fn number(self) -> u8
-        ensures value { result ≡ number_of self }
+        ensures value { result ≡ refusal_number self }
         ensures bounds { (1 ≤ result) × (result ≤ 9) }
     {
         match self {

@@ -1,34 +1,29 @@
--- `records::reader::fit_record` meets its contract.
-use mathlib.Core.Path.{refl, sym, ◌∙◌}
-use Rattle.fields.proofs.Tests.{there_cut}
-use Rattle.records.specs.Reader.{read_as}
+-- `records::reader::fit_record` meets its contract: the tests that it makes are those left of the definition's.
+use Rattle.std.proofs.Common.{arith}
+use Rattle.fields.proofs.Refusals.{first_number, first_passed}
+use Rattle.records.proofs.Answers.{answer_number, answer_none, read_fit}
 use Rattle.records.proofs.Ranges.{own_ok}
-use Rattle.records.proofs.Answers.{stop, pass}
 use Rattle.records.proofs.reader.fit_record.Goals as goal
 
-pub returns-then-suit-ne0 : goal.returns-then-suit-ne0
-unfolding read_as
-returns-then-suit-ne0 c =
-    pass _ _ _ _ _ _ refl (there_cut _ _ _ c.requires.m_in_bounds)
-    (pass _ _ _ _ _ _ refl c.requires.at_value.0
-    (stop _ _ _ _ _ c.suit_fault-suit.ensures c.if-suit-ne0.true))
+pub returns-in_err-suit_fault : goal.returns-in_err-suit_fault
+returns-in_err-suit_fault c =
+    rw (read_fit c.args.m c.args.kind c.args.s.now c.args.at c.args.b c.args.other c.requires.m_in_bounds c.requires.at_value.0)
+    (grind (arith, first_number, answer_number))
 
-pub output_shape-output-requires : goal.output_shape-output-requires
-output_shape-output-requires c = record { kind_ok = rw c.requires.at_value.1 (own_ok _ _ _ c.requires.at_value.0); good_shape = c.requires.good_shape.0; other_value = sym c.suit_fault-suit.ensures ∙ c.if-suit-ne0.false }
+pub output_shape-output-requires-clause-kind_ok : goal.output_shape-output-requires-clause-kind_ok
+output_shape-output-requires-clause-kind_ok c = rw c.requires.at_value.1 (own_ok _ _ _ c.requires.at_value.0)
+
+pub returns-in_err-size_fault : goal.returns-in_err-size_fault
+returns-in_err-size_fault c =
+    rw (read_fit c.args.m c.args.kind c.args.s.now c.args.at c.args.b c.args.other c.requires.m_in_bounds c.requires.at_value.0)
+    (grind (arith, first_number, first_passed, answer_number))
+
+pub returns-in_err-stored_fault : goal.returns-in_err-stored_fault
+returns-in_err-stored_fault c =
+    rw (read_fit c.args.m c.args.kind c.args.s.now c.args.at c.args.b c.args.other c.requires.m_in_bounds c.requires.at_value.0)
+    (grind (arith, first_number, first_passed, answer_number))
 
 pub returns : goal.returns
-unfolding read_as
 returns c =
-    pass _ _ _ _ _ _ refl (there_cut _ _ _ c.requires.m_in_bounds)
-    (pass _ _ _ _ _ _ refl c.requires.at_value.0
-    (pass _ _ _ _ _ _ c.suit_fault-suit.ensures c.if-suit-ne0.false
-    (simp (
-      c.first_of.ensures,
-      c.size_fault-size.ensures,
-      c.stored_fault-stored.ensures,
-      c.fixed_len-fixed.ensures,
-      c.sums_of-n.ensures.0,
-      c.terms_by-w.ensures.0,
-      c.stored_len.ensures.0,
-      c.output_shape-output.ensures.0,
-    ) at c.answer_of.ensures)))
+    rw (read_fit c.args.m c.args.kind c.args.s.now c.args.at c.args.b c.args.other c.requires.m_in_bounds c.requires.at_value.0)
+    (grind (arith, first_passed, answer_none))
