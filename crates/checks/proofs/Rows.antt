@@ -22,7 +22,7 @@ use Rattle.network.specs.Head.{picture_at, head_fault}
 use Rattle.network.specs.Decode.{read_layer, stopped, started, start_of, pushed, step_read, step_from, step_of, steps_of, end_fault, decoded_as, whole_of, decode_of}
 use Rattle.network.specs.Taken.{Taken}
 use Rattle.network.specs.declared.net.Network.{Network}
-use Rattle.network.specs.declared.file.Progress.{Progress}
+use Rattle.network.specs.Decode.{Progress}
 use Rattle.network.proofs.Layers.{Ready, start_fine, steps_fine}
 use Rattle.bands.specs.State.{band_of, rows_of, state_fault}
 use Rattle.bands.specs.declared.state.State.{State}

@@ -7,7 +7,7 @@ use native.Mathlib.Omega.{arith}
 use native.Mathlib.Nat.{le_refl}
 use Rattle.network.specs.Decode.{decode_of}
 use Rattle.network.specs.Taken.{Taken}
-use Rattle.network.specs.declared.file.Decoded.{Decoded}
+use Rattle.network.specs.Decode.{Decoded}
 use Rattle.network.proofs.Taken.{taken}
 use Rattle.clew.specs.Sizes.{sizes_by, sizes_of}
 use Rattle.clew.specs.declared.outcome.Sizes.{Sizes}

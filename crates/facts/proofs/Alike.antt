@@ -16,7 +16,7 @@ use Rattle.network.specs.Network.{layer_of, place_of}
 use Rattle.network.specs.Decode.{decode_of}
 use Rattle.network.specs.Replace.{replace_fault}
 use Rattle.network.specs.declared.net.Network.{Network}
-use Rattle.network.specs.declared.file.Decoded.{Decoded}
+use Rattle.network.specs.Decode.{Decoded}
 use Rattle.network.proofs.Taken.{taken}
 use Rattle.network.proofs.Places.{records-apart, records-in}
 use Rattle.network.proofs.Kindred.{bare, Kindred, kindred_same, layer_as, replace_fit, fit_kindred}

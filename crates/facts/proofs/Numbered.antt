@@ -24,7 +24,7 @@ use Rattle.records.specs.Reader.{Refused, Found}
 use Rattle.network.specs.Head.{picture_at, head_mark, head_fault}
 use Rattle.network.specs.Decode.{read_layer, stopped, started, start_of, pushed, step_read, step_from, step_of, steps_of, end_fault, decoded_as, whole_of, decode_of}
 use Rattle.network.specs.declared.net.Network.{Network}
-use Rattle.network.specs.declared.file.Progress.{Progress}
+use Rattle.network.specs.Decode.{Progress}
 
 -- the first of two numbers is one of them
 pub first_most : {a b k : ℕ} → a ≤ k → b ≤ k → first a b ≤ k

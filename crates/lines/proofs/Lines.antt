@@ -17,7 +17,7 @@ use Rattle.network.specs.Network.{layer_of}
 use Rattle.network.specs.Decode.{decode_of}
 use Rattle.network.specs.Taken.{Taken}
 use Rattle.network.specs.declared.net.Network.{Network}
-use Rattle.network.specs.declared.file.Decoded.{Decoded}
+use Rattle.network.specs.Decode.{Decoded}
 use Rattle.network.proofs.Bounds.{sums_few as sums-in-store}
 use Rattle.network.proofs.Taken.{taken}
 use Rattle.lines.specs.Listing.{decimal, column, line_of, word_of, heading, picture_word, layer_line, table_of, refused_line, listed, listing_of}

@@ -15,7 +15,7 @@ use Rattle.network.specs.Network.{blank_layer, layer_of, tensor_of, place_of}
 use Rattle.network.specs.Decode.{pushed}
 use Rattle.network.specs.Taken.{KindTaken, LayerTaken}
 use Rattle.network.specs.declared.net.Network.{Network}
-use Rattle.network.specs.declared.file.Progress.{Progress}
+use Rattle.network.specs.Decode.{Progress}
 use Rattle.network.proofs.Marked.{Grown}
 
 -- where the record of layer m begins, by the one before it

@@ -3,27 +3,32 @@
 use Prim.Native.Nat.{ℕ, zero, suc, ◌+◌, ◌-◌, ◌≤◌, ◌<◌}
 use mathlib.Core.Path.{◌≡◌, refl, sym, ◌∙◌, ap, subst, subst⁻¹}
 use mathlib.Core.List.{List}
+use Rattle.std.specs.Prelude.{Ok, Err}
 use native.Mathlib.Omega.{arith}
 use native.Mathlib.Numerals.{add-one, sub-one}
-use borrow.Author.Tests.{le-leb, lt-leb}
+use mathlib.Core.Bool.{Bool, true, false}
+use borrow.Author.Tests.{le-leb, leb-true}
+use lib.Dec.{leb}
 use lib.ListN.{length, length-set, length-replicate}
-use Rattle.fields.specs.Faults.{first}
+use Rattle.fields.specs.Faults.{unless, first}
 use Rattle.fields.specs.Bytes.{byte_at}
 use Rattle.fields.specs.Shape.{bytes_of}
 use Rattle.fields.specs.Asked.{GoodShape}
+use Rattle.refusals.specs.Refusal.{refusal_number}
+use Rattle.refusals.specs.declared.refusal.Refusal.{Refusal}
+use Rattle.refusals.specs.declared.refusal.Refusal.TheVariants.{Malformed, OutOfRange, Unfit, NoRoom, BadBands, BadSums, BadArguments, Stale, BadRecord}
+use Rattle.fields.specs.declared.shape.Shape.{Shape}
 use Rattle.records.specs.declared.layer.Layer.{Layer}
 use Rattle.records.specs.Reader.{Read}
 use Rattle.records.specs.Reader.{Refused, Found}
-use Rattle.fields.proofs.Tests.{first_both, within_in, cut_there}
+use Rattle.fields.proofs.Tests.{first_both, first_some, first-none, unless-none, within_in, cut_there}
 use Rattle.fields.proofs.Shapes.{size_in, good_shape}
 use Rattle.records.proofs.Answers.{Answered}
-use Rattle.network.specs.Network.{blank_shape, blank_layer, empty_network, tensor_of}
+use Rattle.network.specs.Network.{blank_shape, blank_layer, empty_network, with_layer, tensor_of}
 use Rattle.network.specs.Head.{picture_at, head_fault}
-use Rattle.network.specs.Asked.{CanStep}
-use Rattle.network.specs.Decode.{read_layer, stopped, started, start_of, pushed, step_read, step_from, step_of, steps_of, end_fault, decoded_as, finish_of, whole_of, decode_of}
+use Rattle.network.specs.Asked.{Next, CanStep}
+use Rattle.network.specs.Decode.{Progress, Decoded, read_layer, stopped, started, start_of, pushed, step_read, step_from, step_of, steps_of, end_fault, decoded_as, decoded_to, finish_of, whole_of, decode_of}
 use Rattle.network.specs.declared.net.Network.{Network}
-use Rattle.network.specs.declared.file.Progress.{Progress}
-use Rattle.network.specs.declared.file.Decoded.{Decoded}
 use Rattle.network.proofs.Marked.{Grown, read-grown}
 use Rattle.network.proofs.Growth.{Sofar, pushed_extends, sofar-more}
 
@@ -154,13 +159,6 @@ start_fine s = started_fine s (head_fault s) refl
 
 -- ---- what the functions need
 
-pub step_stopped : (s : List ℕ) (p : Progress) → (p.fault ≡ 0 → ⊥) → p ≡ step_of s p
-unfolding step_of
-step_stopped s p h = from p.fault h where
-  from : (k : ℕ) → (k ≡ 0 → ⊥) → p ≡ step_from k s p
-  from zero h = absurd (h refl)
-  from (suc k) h = refl
-
 pub step_next :
     (s : List ℕ) (p : Progress) (r : Read) →
     p.fault ≡ 0 →
@@ -173,20 +171,38 @@ pub head_there : (s : List ℕ) → head_fault s ≡ 0 → 10 ≤ length s
 unfolding head_fault
 head_there s p = cut_there s 0 10 (omega arith) (first_both _ _ p).0
 
-pub start_stopped : (s : List ℕ) (f : ℕ) → f ≡ head_fault s → (f ≡ 0 → ⊥) → stopped f ≡ start_of s
-unfolding start_of started
-start_stopped s f e h = some f h ∙ ap (λ (k : ℕ). started k (picture_at s) (byte_at s 7) (byte_at s 8)) e where
-  some : (k : ℕ) → (k ≡ 0 → ⊥) → stopped k ≡ started k (picture_at s) (byte_at s 7) (byte_at s 8)
-  some zero h = absurd (h refl)
-  some (suc k) h = refl
+-- a file of which so many layers are read, the next record beginning at `at`
+abbrev pub going : ℕ → ℕ → Network → Progress
+going at made n = record { fault = 0; at = at; made = made; network = n }
 
-pub start_started :
-    (s : List ℕ) (f : ℕ) →
-    f ≡ head_fault s →
-    f ≡ 0 →
-    started 0 (picture_at s) (byte_at s 7) (byte_at s 8) ≡ start_of s
-unfolding start_of
-start_started s f e h = ap (λ (k : ℕ). started k (picture_at s) (byte_at s 7) (byte_at s 8)) (sym h ∙ e)
+-- a head that is refused begins nothing
+pub started_number : (e : Refusal) (picture : Shape) (z count : ℕ) → started (refusal_number e) picture z count ≡ stopped (refusal_number e)
+unfolding started
+started_number Malformed picture z count = refl
+started_number OutOfRange picture z count = refl
+started_number Unfit picture z count = refl
+started_number NoRoom picture z count = refl
+started_number BadBands picture z count = refl
+started_number BadSums picture z count = refl
+started_number BadArguments picture z count = refl
+started_number Stale picture z count = refl
+started_number BadRecord picture z count = refl
+
+pub started_none : (picture : Shape) (z count : ℕ) → started 0 picture z count ≡ going 10 0 (empty_network picture z count (bytes_of picture))
+unfolding started
+started_none picture z count = refl
+
+-- a refusal has a number
+pub number_some : (e : Refusal) → refusal_number e ≡ 0 → ⊥
+number_some Malformed h = omega arith
+number_some OutOfRange h = omega arith
+number_some Unfit h = omega arith
+number_some NoRoom h = omega arith
+number_some BadBands h = omega arith
+number_some BadSums h = omega arith
+number_some BadArguments h = omega arith
+number_some Stale h = omega arith
+number_some BadRecord h = omega arith
 
 pub fine_next : (s : List ℕ) (left : ℕ) (p : Progress) → 0 < left → Fine s left p → CanStep s p
 fine_next s left p h f e =
@@ -240,6 +256,121 @@ loop_ends s p p₀ left e f r small start none ran he hf hr =
     ∙ ap (whole_of s) start
     ∙ simp (le-leb (length s) 65536 small)
 
-pub too_long : (s : List ℕ) (p : Progress) (r : Decoded) → 65536 < length s → r ≡ decoded_as 3 p → r ≡ decode_of s
+-- ---- the code's loop
+
+-- and of so many in all: the layers that are left, read from here, give what all of them give from the head
+pub record Going (s : List ℕ) (count made at : ℕ) (n : Network) : Type 0 where
+  pub same : steps_of s (count - made) (going at made n) ≡ steps_of s (start_of s).network.count (start_of s)
+  pub ready : Ready s (count - made) (going at made n)
+
+pub going_starts : (s : List ℕ) (n : Network) → going 10 0 n ≡ start_of s → Going s n.count 0 10 n
+going_starts s n e =
+    let all : n.count - 0 ≡ n.count = omega arith in
+    record {
+      same = rw all (ap (λ (q : Progress). steps_of s q.network.count q) e);
+      ready = rw all (loop_starts s (going 10 0 n) e refl);
+    }
+
+pub going_turns :
+    (s : List ℕ) (count made at : ℕ) (n : Network) (l : Layer) (next : ℕ) →
+    made < count →
+    Found l next ≡ read_layer s at n made →
+    Going s count made at n →
+    Going s count (made + 1) next (with_layer n made l)
+unfolding pushed
+going_turns s count made at n l next h e g =
+    let one : count - made - 1 ≡ count - (made + 1) = omega arith in
+    let t = loop_turns s (count - made) (going at made n) (pushed (going at made n) l next) _ (omega arith) (step_next s (going at made n) (Found l next) refl e) g.same (λ _. g.ready) in
+    record { same = rw one at t.0; ready = rw one at (t.1 refl) }
+
+-- the next record can be read
+pub going_next : (s : List ℕ) (count made at : ℕ) (n : Network) → made < count → Going s count made at n → Next s (going at made n)
+going_next s count made at n h g = fine_next s (count - made) (going at made n) (omega arith) (λ _. g.ready) refl
+
+-- a refusal stays
+steps_stopped : (s : List ℕ) (n k : ℕ) → (k ≡ 0 → ⊥) → steps_of s n (stopped k) ≡ stopped k
+unfolding steps_of step_of stopped
+steps_stopped s zero k h = refl
+steps_stopped s (suc n) zero h = absurd (h refl)
+steps_stopped s (suc n) (suc k) h = steps_stopped s n (suc k) h
+
+-- a file whose steps end in a refusal is refused
+stopped_decodes :
+    (s : List ℕ) (e : Refusal) →
+    length s ≤ 65536 →
+    stopped (refusal_number e) ≡ steps_of s (start_of s).network.count (start_of s) →
+    decode_of s ≡ decoded_to (Err e)
+unfolding steps_of stopped
+stopped_decodes s e small ran =
+    let k = refusal_number e in
+    sym
+    (loop_ends s (stopped k) (start_of s) 0 (end_fault s 0) k (decoded_to (Err e)) small refl (omega arith) ran refl
+    (sym (first_some k (end_fault s 0) (number_some e)))
+    (decoded_refused k (stopped k) (empty_network blank_shape 0 0 0) refl (number_some e)))
+
+-- by its head
+pub head_refuses : (s : List ℕ) (e : Refusal) → length s ≤ 65536 → stopped (refusal_number e) ≡ start_of s → decode_of s ≡ decoded_to (Err e)
+unfolding steps_of stopped
+head_refuses s e small h = stopped_decodes s e small (ap (λ (q : Progress). steps_of s q.network.count q) h)
+
+-- by the next record
+pub going_refuses :
+    (s : List ℕ) (count made at : ℕ) (n : Network) (e : Refusal) →
+    length s ≤ 65536 →
+    made < count →
+    Refused (refusal_number e) ≡ read_layer s at n made →
+    Going s count made at n →
+    decode_of s ≡ decoded_to (Err e)
+going_refuses s count made at n e small h r g =
+    let k = refusal_number e in
+    stopped_decodes s e small
+    (sym (steps_stopped s (count - made - 1) k (number_some e))
+    ∙ ap (steps_of s (count - made - 1)) (step_next s (going at made n) (Refused k) refl r)
+    ∙ sym (steps_next s (count - made) (going at made n) (omega arith))
+    ∙ g.same)
+
+going_ends :
+    (s : List ℕ) (count made at f : ℕ) (n : Network) (r : Decoded) →
+    length s ≤ 65536 →
+    count ≤ made →
+    f ≡ end_fault s at →
+    r ≡ decoded_as f (going at made n) →
+    Going s count made at n →
+    r ≡ decode_of s
+going_ends s count made at f n r small h e hr g =
+    loop_ends s (going at made n) (start_of s) (count - made) f f r small refl (omega arith) g.same e (sym (first-none 0 f refl)) hr
+
+-- by what follows the last layer
+pub end_refuses :
+    (s : List ℕ) (count made at : ℕ) (n : Network) (e : Refusal) →
+    length s ≤ 65536 →
+    count ≤ made →
+    refusal_number e ≡ end_fault s at →
+    Going s count made at n →
+    decode_of s ≡ decoded_to (Err e)
+end_refuses s count made at n e small h k g =
+    sym
+    (going_ends s count made at (refusal_number e) n (decoded_to (Err e)) small h k
+    (decoded_refused (refusal_number e) (going at made n) (empty_network blank_shape 0 0 0) refl (number_some e)) g)
+
+-- or it is taken
+pub going_taken :
+    (s : List ℕ) (count made at : ℕ) (n : Network) →
+    length s ≤ 65536 →
+    count ≤ made →
+    0 ≡ end_fault s at →
+    Going s count made at n →
+    decode_of s ≡ decoded_to (Ok n)
+unfolding decoded_as
+going_taken s count made at n small h k g = sym (going_ends s count made at 0 n (decoded_to (Ok n)) small h k refl g)
+
+-- a file that is too long is refused for that alone
+pub too_long : (s : List ℕ) (e : Refusal) → refusal_number e ≡ unless (leb (length s) 65536) 3 → decode_of s ≡ decoded_to (Err e)
 unfolding decode_of decoded_as
-too_long s p r h e = e ∙ simp (lt-leb (length s) 65536 h)
+too_long s e h = by_length (leb (length s) 65536) refl where
+  by_length : (b : Bool) → leb (length s) 65536 ≡ b → decode_of s ≡ decoded_to (Err e)
+  by_length true p = absurd (number_some e (h ∙ ap (λ b. unless b 3) p))
+  by_length false p = let k : refusal_number e ≡ 3 = h ∙ ap (λ b. unless b 3) p in simp (p, k)
+
+pub short : (s : List ℕ) → 0 ≡ unless (leb (length s) 65536) 3 → length s ≤ 65536
+short s e = leb-true _ _ (unless-none _ 2 (sym e))

@@ -16,7 +16,7 @@ use Rattle.records.specs.Reader.{kind_at, suit_fault}
 use Rattle.records.specs.declared.layer.Kind.{Kind}
 use Rattle.records.specs.declared.layer.Kind.TheVariants.{Conv, Full, Add}
 use Rattle.records.specs.declared.layer.Layer.{Layer}
-use Rattle.records.specs.declared.reader.Read.TheVariants.{Found}
+use Rattle.records.specs.Reader.{Found}
 use Rattle.records.proofs.Ranges.{own_ok, suits_fit, add_suits}
 use Rattle.records.proofs.Answers.{Answered, answered_map, answered_found, passes-left}
 use Rattle.network.specs.Network.{tensor_of}

@@ -16,7 +16,7 @@ use Rattle.records.specs.Reader.{kind_at, suit_fault, layer_with}
 use Rattle.records.specs.declared.layer.Kind.{Kind}
 use Rattle.records.specs.declared.layer.Layer.{Layer}
 use Rattle.records.specs.declared.mark.Mark.{Mark}
-use Rattle.records.specs.declared.reader.Read.TheVariants.{Found}
+use Rattle.records.specs.Reader.{Found}
 use Rattle.records.proofs.Answers.{Answered, Passes, FoundAs, read-passes, found_as, passes-found}
 use Rattle.network.specs.Network.{tensor_of}
 use Rattle.network.specs.Decode.{before_of, other_shape, read_layer}

@@ -13,15 +13,15 @@ use Rattle.records.specs.Reader.{kind_at}
 use Rattle.records.specs.Layer.{sums_of, other_of, record_len}
 use Rattle.records.specs.declared.layer.Kind.{Kind}
 use Rattle.records.specs.declared.layer.Layer.{Layer}
-use Rattle.records.specs.declared.reader.Read.TheVariants.{Found}
+use Rattle.records.specs.Reader.{Found}
 use Rattle.fields.proofs.Tests.{first_both}
 use Rattle.network.specs.Network.{blank_layer, layer_of, tensor_of}
 use Rattle.network.specs.Head.{picture_at, head_mark, head_fault}
 use Rattle.network.specs.Decode.{read_layer, pushed, steps_of, start_of, end_fault, decode_of}
 use Rattle.network.specs.Replace.{replace_fault}
 use Rattle.network.specs.declared.net.Network.{Network}
-use Rattle.network.specs.declared.file.Progress.{Progress}
-use Rattle.network.specs.declared.file.Decoded.{Decoded}
+use Rattle.network.specs.Decode.{Progress}
+use Rattle.network.specs.Decode.{Decoded}
 use Rattle.network.proofs.Layers.{start_fine}
 use Rattle.network.proofs.Taken.{taken}
 use Rattle.network.proofs.Rewritten.{rewritten, rewritten-length, byte-before, byte-within, byte-after, Same}

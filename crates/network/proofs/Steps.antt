@@ -16,7 +16,7 @@ use Rattle.records.specs.Reader.{Refused, Found}
 use Rattle.records.proofs.Answers.{Answered}
 use Rattle.network.specs.Network.{blank_layer, layer_of}
 use Rattle.network.specs.Decode.{read_layer, start_of, stopped, pushed, step_read, step_from, step_of, steps_of, end_fault, decoded_as, whole_of, decode_of}
-use Rattle.network.specs.declared.file.Progress.{Progress}
+use Rattle.network.specs.Decode.{Progress}
 use Rattle.network.proofs.Passing.{FoundAt, read_found, found_at}
 use Rattle.network.proofs.Layers.{step_next, loop_ends}
 

@@ -12,7 +12,7 @@ use Rattle.fields.specs.Faults.{first}
 use Rattle.fields.proofs.Tests.{first_both, unless-none}
 use Rattle.network.specs.Decode.{stopped, start_of, end_fault, decoded_as, finish_of, whole_of, decode_of}
 use Rattle.network.specs.Taken.{Taken}
-use Rattle.network.specs.declared.file.Progress.{Progress}
+use Rattle.network.specs.Decode.{Progress}
 use Rattle.network.proofs.Growth.{end_of, sums_before}
 use Rattle.network.proofs.Layers.{Ready, Fine, start_fine, steps_fine}
 

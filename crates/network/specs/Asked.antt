@@ -4,7 +4,7 @@ use Rattle.std.specs.Prelude.{ℕ, ◌≤◌, ◌<◌, ◌≡◌, List, length}
 use Rattle.numbers.specs.Limits.{file_most, area_most}
 use Rattle.fields.specs.Asked.{GoodShape}
 use Rattle.network.specs.Network.{tensor_of}
-use Rattle.network.specs.declared.file.Progress.{Progress}
+use Rattle.network.specs.Decode.{Progress}
 
 -- what the next record's reader needs of a file read so far
 pub record Next (s : List ℕ) (p : Progress) : Type 0 where

@@ -1,13 +1,15 @@
 -- The whole file: its length, the head, the layers in order, and that nothing follows.
 -- Assumes nothing.
-use Rattle.std.specs.Prelude.{ℕ, zero, suc, ◌+◌, min, cond, List, [], ◌∷◌, leb, eqb, length, set}
+use Rattle.std.specs.Prelude.{ℕ, zero, suc, ◌+◌, min, cond, List, [], ◌∷◌, leb, eqb, length, Result, Ok, Err}
 use Rattle.numbers.specs.Limits.{file_most}
+use Rattle.refusals.specs.Refusal.{refusal_number}
+use Rattle.refusals.specs.declared.refusal.Refusal.{Refusal}
 use Rattle.fields.specs.Faults.{unless, first_fault}
 use Rattle.fields.specs.Bytes.{byte_at}
 use Rattle.fields.specs.Shape.{bytes_of}
 use Rattle.fields.specs.declared.shape.Shape.{Shape}
 use Rattle.records.specs.Mark.{mark_at}
-use Rattle.records.specs.Layer.{sums_of, other_of}
+use Rattle.records.specs.Layer.{other_of}
 use Rattle.records.specs.Reader.{kind_at, read_as}
 use Rattle.records.specs.declared.layer.Kind.{Kind}
 use Rattle.records.specs.declared.layer.Layer.{Layer}
@@ -15,11 +17,9 @@ use Rattle.records.specs.declared.mark.Mark.{Mark}
 use Rattle.records.specs.declared.reader.Before.{Before}
 use Rattle.records.specs.Reader.{Read}
 use Rattle.records.specs.Reader.{Refused, Found}
-use Rattle.network.specs.Network.{blank_shape, empty_network, tensor_of}
+use Rattle.network.specs.Network.{blank_shape, empty_network, with_layer, tensor_of}
 use Rattle.network.specs.Head.{picture_at, head_fault}
 use Rattle.network.specs.declared.net.Network.{Network}
-use Rattle.network.specs.declared.file.Progress.{Progress}
-use Rattle.network.specs.declared.file.Decoded.{Decoded}
 
 -- what stands before the record of layer made + 1, which reads tensor made
 abbrev pub before_of : Network → ℕ → Before
@@ -37,6 +37,18 @@ read_marked m s at n made = read_as m (kind_at m s at) s at (before_of n made) (
 unfoldable pub read_layer : List ℕ → ℕ → Network → ℕ → Read
 read_layer s at n made = read_marked (mark_at s at) s at n made
 
+-- a file read so far: the fault met, or 0 with where the next record begins, how many layers there are, and the network of these
+pub record Progress : Type 0 where
+  pub fault : ℕ
+  pub at : ℕ
+  pub made : ℕ
+  pub network : Network
+
+-- the answer: fault 0 with the network, or the number of the first fault met with a network of no layer
+pub record Decoded : Type 0 where
+  pub fault : ℕ
+  pub network : Network
+
 -- a refusal: the number, and no network
 unfoldable pub stopped : ℕ → Progress
 stopped n = record { fault = n; at = 0; made = 0; network = empty_network blank_shape 0 0 0 }
@@ -48,20 +60,18 @@ started (suc fault) picture z count = stopped (suc fault)
 unfoldable pub start_of : List ℕ → Progress
 start_of s = started (head_fault s) (picture_at s) (byte_at s 7) (byte_at s 8)
 
+-- the same as the code answers it: the network that the head begins, or the refusal
+abbrev pub started_as : Result Network Refusal → Progress
+started_as (Ok n) = record { fault = 0; at = 10; made = 0; network = n }
+started_as (Err refusal) = stopped (refusal_number refusal)
+
 -- one more layer
 unfoldable pub pushed : Progress → Layer → ℕ → Progress
 pushed p l next = record {
   fault = 0;
   at = next;
   made = p.made + 1;
-  network = record {
-    picture = p.network.picture;
-    zero = p.network.zero;
-    count = p.network.count;
-    layers = set p.network.layers p.made l;
-    area = p.network.area + bytes_of l.output;
-    store = p.network.store + sums_of l.kind;
-  };
+  network = with_layer p.network p.made l;
 }
 
 abbrev pub step_read : Progress → Read → Progress
@@ -88,6 +98,11 @@ end_fault s at = unless (eqb at (length s)) 1
 unfoldable pub decoded_as : ℕ → Progress → Decoded
 decoded_as zero p = record { fault = 0; network = p.network }
 decoded_as (suc n) p = record { fault = suc n; network = empty_network blank_shape 0 0 0 }
+
+-- the answer as the code gives it
+abbrev pub decoded_to : Result Network Refusal → Decoded
+decoded_to (Ok n) = record { fault = 0; network = n }
+decoded_to (Err refusal) = record { fault = refusal_number refusal; network = empty_network blank_shape 0 0 0 }
 
 abbrev pub finish_of : List ℕ → Progress → Decoded
 finish_of s p = decoded_as (first_fault (p.fault ∷ end_fault s p.at ∷ [])) p

@@ -1,7 +1,9 @@
 -- A network: tensor 0 is the picture; layer m, counted from 0, reads tensor m and makes tensor m + 1.
 -- Assumes nothing.
-use Rattle.std.specs.Prelude.{ℕ, zero, suc, get_or, replicate}
+use Rattle.std.specs.Prelude.{ℕ, zero, suc, ◌+◌, get_or, set, replicate}
+use Rattle.fields.specs.Shape.{bytes_of}
 use Rattle.fields.specs.declared.shape.Shape.{Shape}
+use Rattle.records.specs.Layer.{sums_of}
 use Rattle.records.specs.Conv.{blank_conv}
 use Rattle.records.specs.declared.mark.Mark.TheVariants.{CV}
 use Rattle.records.specs.declared.layer.Kind.{Kind}
@@ -19,6 +21,17 @@ blank_layer = record { mark = CV; kind = Conv blank_conv; input = blank_shape; o
 -- a network of no layer yet
 abbrev pub empty_network : Shape → ℕ → ℕ → ℕ → Network
 empty_network picture z count area = record { picture = picture; zero = z; count = count; layers = replicate 16 blank_layer; area = area; store = 0 }
+
+-- with one layer more, after so many
+abbrev pub with_layer : Network → ℕ → Layer → Network
+with_layer n made l = record {
+  picture = n.picture;
+  zero = n.zero;
+  count = n.count;
+  layers = set n.layers made l;
+  area = n.area + bytes_of l.output;
+  store = n.store + sums_of l.kind;
+}
 
 abbrev pub layer_of : Network → ℕ → Layer
 layer_of n m = get_or n.layers m blank_layer
