@@ -166,6 +166,9 @@ module _ (b : Band) (y : Link) (hk : 0 < y.kernel) (hs : 0 < y.stride) where
   pub in-reached : (i : ℕ) → In i (reached_band b y) → (i < y.rows) × Hit b y i
   in-reached i w = in-divided i (rw reached-divided at w)
 
+-- what the code's answers rest on
+pub ruleset reaches = (some-reached, none-reached, reached-empty)
+
 -- ---- every window holds a real row
 
 -- of an input of that many rows, where the padding above it is below the kernel's rows and no window starts past its last row
