@@ -1,7 +1,7 @@
 // The state by value, its test, and the state that each call leaves.
 ghost use Rattle.std.specs.Prelude.{◌≡◌, ◌<◌, replicate};
 ghost use Rattle.refusals.specs.Refusal.{fault_of};
-ghost use Rattle.bands.specs.State.{band_of, with_band, all_stale, all_empty, fair, absent, fair_at, state_fault, clean as is_clean, loaded, changed, replaced};
+ghost use Rattle.bands.specs.State.{band_of, with_band, all_stale, all_empty, fair, fair_at, state_fault, clean as is_clean, loaded, changed, replaced};
 
 use crate::band::{Band, cover};
 use refusals::refusal::Refusal;
@@ -37,8 +37,8 @@ pub fn with_band(mut s: State, t: usize, b: Band) -> State
     s
 }
 
-// The band b for each tensor.
-fn each(b: Band) -> State
+// The same band for each tensor.
+fn all_bands(b: Band) -> State
     ensures { result.bands ≡ replicate 17 b }
 {
     State { bands: [b; 17] }
@@ -48,14 +48,14 @@ fn each(b: Band) -> State
 pub fn all_stale() -> State
     ensures { result ≡ all_stale }
 {
-    each(Band { first: 1, end: 0 })
+    all_bands(Band { first: 1, end: 0 })
 }
 
 /// Every band empty: what an update leaves.
 pub fn all_empty() -> State
     ensures { result ≡ all_empty }
 {
-    each(Band::EMPTY)
+    all_bands(Band::EMPTY)
 }
 
 // The test of a band whose tensor the network has.
@@ -65,7 +65,7 @@ fn is_fair(rows: u16, b: Band) -> bool
     b.first <= b.end && b.end <= rows && (b.first < b.end || b.end == 0)
 }
 
-// The test of one tensor's band.
+// The test of tensor t's band, which is empty where the network lacks the tensor.
 fn is_fair_at(s: State, n: Tensors, t: usize) -> bool
     requires { t < 17 }
     ensures { result ≡ fair_at s n t }
@@ -78,7 +78,7 @@ fn is_fair_at(s: State, n: Tensors, t: usize) -> bool
     }
 }
 
-/// Test 5.
+/// Test 5, of all the bands.
 pub fn state_fault(s: State, n: Tensors) -> Result<(), Refusal>
     ensures { fault_of result ≡ state_fault s n }
 {
