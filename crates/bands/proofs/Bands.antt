@@ -16,9 +16,6 @@ use Rattle.bands.specs.Within.{Inside, Empty}
 pub dec_in : (i : ℕ) (b : Band) → Dec (In i b)
 dec_in i b = grind arith
 
-pub in_empty : (i : ℕ) (b : Band) → Empty b → In i b → ⊥
-in_empty i b h w = omega arith
-
 -- a row from first on that is not in the band is past it
 pub past : (i : ℕ) (b : Band) → (In i b → ⊥) → b.first ≤ i → b.end ≤ i
 past i b w h = grind arith

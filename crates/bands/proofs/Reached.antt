@@ -59,21 +59,18 @@ module _ (b : Band) (y : Link) where
 abbrev pub or_none : ℕ → ℕ → Band
 or_none f e = cond (ltb f e) (band f e) none
 
--- first and end by two floor divisions; none where the band is empty, or reaches no row
+-- where the formula's band begins and ends, by two floor divisions
+abbrev pub from_row : Band → Link → ℕ
+from_row b y = (b.first + y.before + y.stride - y.kernel) / y.stride
+
+abbrev pub to_row : Band → Link → ℕ
+to_row b y = min y.rows ((b.end + y.before - 1) / y.stride + 1)
+
+-- none where the band is empty, or reaches no row
 unfoldable pub divided : Band → Link → Band
-divided b y =
-    cond (ltb b.first b.end)
-    (or_none ((b.first + y.before + y.stride - y.kernel) / y.stride) (min y.rows ((b.end + y.before - 1) / y.stride + 1)))
-    none
+divided b y = cond (ltb b.first b.end) (or_none (from_row b y) (to_row b y)) none
 
 module _ (b : Band) (y : Link) (hk : 0 < y.kernel) (hs : 0 < y.stride) where
-  -- where the formula's band begins and ends
-  abbrev pub F : ℕ
-  F = (b.first + y.before + y.stride - y.kernel) / y.stride
-
-  abbrev pub E : ℕ
-  E = min y.rows ((b.end + y.before - 1) / y.stride + 1)
-
   divided-canon : Canon (divided b y)
   unfolding divided
   divided-canon = grind (arith, nat_tests)
@@ -81,12 +78,12 @@ module _ (b : Band) (y : Link) (hk : 0 < y.kernel) (hs : 0 < y.stride) where
   divided-in : (i : ℕ) → i < y.rows → Hit b y i → In i (divided b y)
   unfolding divided
   divided-in i hi h =
-      let lo : F < suc i = (div-lt_iff_lt-mul hs).1 (omega arith) in
+      let lo : from_row b y < suc i = (div-lt_iff_lt-mul hs).1 (omega arith) in
       let up : i ≤ (b.end + y.before - 1) / y.stride = (le-div_iff_mul-le hs).1 (omega arith) in
       grind (arith, nat_tests)
 
   -- what the formula's band holds
-  shown : (i : ℕ) → In i (divided b y) → (b.first < b.end) × (F ≤ i) × (i < E)
+  shown : (i : ℕ) → In i (divided b y) → (b.first < b.end) × (from_row b y ≤ i) × (i < to_row b y)
   unfolding divided
   shown i w = grind (arith, nat_tests)
 
@@ -106,7 +103,7 @@ module _ (b : Band) (y : Link) (hk : 0 < y.kernel) (hs : 0 < y.stride) where
       reached-in b y i x.0 x.1)
 
   -- what the code returns for a band that is not empty
-  module _ (f e : ℕ) (hb : b.first < b.end) (hf : f ≡ F) (he : e ≡ E) where
+  module _ (f e : ℕ) (hb : b.first < b.end) (hf : f ≡ from_row b y) (he : e ≡ to_row b y) where
     pub some-reached : f < e → band f e ≡ reached_band b y
     unfolding divided
     some-reached h = rw (reached-divided, lt-ltb _ _ hb, ← hf, ← he, lt-ltb _ _ h)
