@@ -1,4 +1,6 @@
 -- The laws of the bands, and the examples.
+pub mod Every
+pub mod Made
 pub mod Bands
 pub mod Reached
 pub mod States

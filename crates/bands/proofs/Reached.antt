@@ -3,19 +3,20 @@
 -- Assumes nothing.
 use Prim.Native.Nat.{ℕ, suc, ◌≤◌, ◌<◌, ◌+◌, ◌-◌, ◌*◌, ◌/◌, min, max}
 use mathlib.Core.Path.{◌≡◌, refl}
-use mathlib.Core.Logic.{inl, inr}
-use mathlib.Core.Bool.{Bool, true, false, and-eq-true_iff, cond}
+use mathlib.Core.Logic.{inr}
+use mathlib.Core.Bool.{true, cond}
 use native.Mathlib.Nat.{div-lt_iff_lt-mul, le-div_iff_mul-le}
 use native.Mathlib.Omega.{arith}
-use lib.Dec.{ltb, leb}
-use borrow.Author.Tests.{leb-true, ltb-true, ltb-false, le-leb, lt-ltb, le-ltb}
+use lib.Dec.{ltb}
+use borrow.Author.Tests.{lt-ltb, le-ltb}
+use Rattle.std.proofs.lemmas.Bool.Decides.{nat_tests}
 use Rattle.bands.specs.declared.band.Band.{Band}
 use Rattle.bands.specs.declared.reach.Link.{Link}
-use Rattle.bands.specs.Band.{band, none, in_band, In}
+use Rattle.bands.specs.Band.{band, none, In}
 use Rattle.bands.specs.Within.{Inside, Empty, Sees, Hit}
 use Rattle.bands.specs.Reach.{in_band_at, is_reached, reached_band}
 use Rattle.lists.proofs.Choice.{some_at, at_some}
-use Rattle.bands.proofs.Bands.{Canon, canon_once, in_empty, in_test, test_in, span-in, span-least, span-canon, span_below}
+use Rattle.bands.proofs.Bands.{Canon, canon_once, span-in, span-least, span-canon, span_below}
 
 -- ---- the rule
 
@@ -25,23 +26,11 @@ module _ (b : Band) (y : Link) where
   unfolding is_reached
   test-hit i h =
       let w = some_at (λ a. in_band_at b y.before (i * y.stride + a)) y.kernel h in
-      let p : ℕ = i * y.stride + w.0 in
-      let v = (and-eq-true_iff (leb y.before p) (in_band b (p - y.before))).0 w.2 in
-      let u : y.before ≤ p = leb-true _ _ v.0 in
-      (p - y.before, test_in (p - y.before) b v.1, omega arith)
+      (i * y.stride + w.0 - y.before, grind (arith, nat_tests), grind (arith, nat_tests))
 
   pub hit-test : (i : ℕ) → Hit b y i → is_reached b y i ≡ true
   unfolding is_reached
-  hit-test i (r, w, x) = at_some (λ a. in_band_at b y.before (i * y.stride + a)) y.kernel (r + y.before - i * y.stride) (omega arith) here
-    where
-      e : i * y.stride + (r + y.before - i * y.stride) ≡ r + y.before
-      e = omega arith
-
-      f : r + y.before - y.before ≡ r
-      f = omega arith
-
-      here : in_band_at b y.before (i * y.stride + (r + y.before - i * y.stride)) ≡ true
-      here = rw (e, f, le-leb y.before (r + y.before) (omega arith)) (in_test r b w)
+  hit-test i (r, w, x) = at_some (λ a. in_band_at b y.before (i * y.stride + a)) y.kernel (r + y.before - i * y.stride) (omega arith) (grind (arith, nat_tests))
 
   -- every row that the band reaches is in the reached band
   pub reached-in : (i : ℕ) → i < y.rows → Hit b y i → In i (reached_band b y)
@@ -63,86 +52,47 @@ module _ (b : Band) (y : Link) where
 
   -- an empty band reaches nothing
   pub reached-empty : Empty b → reached_band b y ≡ none
-  reached-empty e =
-      canon_once (reached_band b y) none reached-canon (inr refl)
-      (reached-least none (λ i hi h. absurd (in_empty h.0 b e h.1)))
-      (λ i w. absurd (in_empty i none (omega arith) w))
+  reached-empty e = canon_once (reached_band b y) none reached-canon (inr refl) (reached-least none (λ i hi h. omega arith)) (λ i w. omega arith)
 
 -- ---- the formula of the code
 
 abbrev pub or_none : ℕ → ℕ → Band
 or_none f e = cond (ltb f e) (band f e) none
 
--- first and end by two floor divisions; none where the band is empty, or reaches no row
+-- where the formula's band begins and ends, by two floor divisions
+abbrev pub from_row : Band → Link → ℕ
+from_row b y = (b.first + y.before + y.stride - y.kernel) / y.stride
+
+abbrev pub to_row : Band → Link → ℕ
+to_row b y = min y.rows ((b.end + y.before - 1) / y.stride + 1)
+
+-- none where the band is empty, or reaches no row
 unfoldable pub divided : Band → Link → Band
-divided b y =
-    cond (ltb b.first b.end)
-    (or_none ((b.first + y.before + y.stride - y.kernel) / y.stride) (min y.rows ((b.end + y.before - 1) / y.stride + 1)))
-    none
-
-or_none_in : (f e i : ℕ) → In i (band f e) → In i (or_none f e)
-or_none_in f e i w = go (ltb f e) refl
-  where
-    go : (t : Bool) → ltb f e ≡ t → In i (cond t (band f e) none)
-    go true x = w
-    go false x = let y : e ≤ f = ltb-false _ _ x in omega arith
-
-in_or_none : (f e i : ℕ) → In i (or_none f e) → In i (band f e)
-in_or_none f e i w = go (ltb f e) w
-  where
-    go : (t : Bool) → In i (cond t (band f e) none) → In i (band f e)
-    go true x = x
-    go false x = omega arith
-
-or_none_canon : (f e : ℕ) → Canon (or_none f e)
-or_none_canon f e = go (ltb f e) refl
-  where
-    go : (t : Bool) → ltb f e ≡ t → Canon (cond t (band f e) none)
-    go true x = inl (ltb-true _ _ x)
-    go false x = inr refl
+divided b y = cond (ltb b.first b.end) (or_none (from_row b y) (to_row b y)) none
 
 module _ (b : Band) (y : Link) (hk : 0 < y.kernel) (hs : 0 < y.stride) where
-  -- where the formula's band begins and ends
-  abbrev pub F : ℕ
-  F = (b.first + y.before + y.stride - y.kernel) / y.stride
-
-  abbrev pub E : ℕ
-  E = min y.rows ((b.end + y.before - 1) / y.stride + 1)
-
   divided-canon : Canon (divided b y)
   unfolding divided
-  divided-canon = go (ltb b.first b.end)
-    where
-      go : (t : Bool) → Canon (cond t (or_none F E) none)
-      go true = or_none_canon F E
-      go false = inr refl
+  divided-canon = grind (arith, nat_tests)
 
   divided-in : (i : ℕ) → i < y.rows → Hit b y i → In i (divided b y)
   unfolding divided
-  divided-in i hi h = go (ltb b.first b.end) refl
-    where
-      lo : F < suc i
-      lo = (div-lt_iff_lt-mul hs).1 (omega arith)
+  divided-in i hi h =
+      let lo : from_row b y < suc i = (div-lt_iff_lt-mul hs).1 (omega arith) in
+      let up : i ≤ (b.end + y.before - 1) / y.stride = (le-div_iff_mul-le hs).1 (omega arith) in
+      grind (arith, nat_tests)
 
-      up : i ≤ (b.end + y.before - 1) / y.stride
-      up = (le-div_iff_mul-le hs).1 (omega arith)
-
-      go : (t : Bool) → ltb b.first b.end ≡ t → In i (cond t (or_none F E) none)
-      go true x = or_none_in F E i (omega (arith, lo, up))
-      go false x = let z : b.end ≤ b.first = ltb-false _ _ x in omega arith
+  -- what the formula's band holds
+  shown : (i : ℕ) → In i (divided b y) → (b.first < b.end) × (from_row b y ≤ i) × (i < to_row b y)
+  unfolding divided
+  shown i w = grind (arith, nat_tests)
 
   in-divided : (i : ℕ) → In i (divided b y) → (i < y.rows) × Hit b y i
-  unfolding divided
-  in-divided i w = go (ltb b.first b.end) refl w
-    where
-      go : (t : Bool) → ltb b.first b.end ≡ t → In i (cond t (or_none F E) none) → (i < y.rows) × Hit b y i
-      go true x v =
-          let z : b.first < b.end = ltb-true _ _ x in
-          let u : In i (band F E) = in_or_none F E i v in
-          let lo : b.first + y.before + y.stride - y.kernel < suc i * y.stride = (div-lt_iff_lt-mul hs).0 (omega arith) in
-          let up : i * y.stride ≤ b.end + y.before - 1 = (le-div_iff_mul-le hs).0 (omega arith) in
-          (omega arith, (max b.first (i * y.stride - y.before), omega arith, omega arith))
-      go false x v = absurd (in_empty i none (omega arith) v)
+  in-divided i w =
+      let v = shown i w in
+      let lo : b.first + y.before + y.stride - y.kernel < suc i * y.stride = (div-lt_iff_lt-mul hs).0 (omega arith) in
+      let up : i * y.stride ≤ b.end + y.before - 1 = (le-div_iff_mul-le hs).0 (omega arith) in
+      (omega arith, (max b.first (i * y.stride - y.before), omega arith, omega arith))
 
   -- the formula gives the band of the rule
   pub reached-divided : reached_band b y ≡ divided b y
@@ -153,7 +103,7 @@ module _ (b : Band) (y : Link) (hk : 0 < y.kernel) (hs : 0 < y.stride) where
       reached-in b y i x.0 x.1)
 
   -- what the code returns for a band that is not empty
-  module _ (f e : ℕ) (hb : b.first < b.end) (hf : f ≡ F) (he : e ≡ E) where
+  module _ (f e : ℕ) (hb : b.first < b.end) (hf : f ≡ from_row b y) (he : e ≡ to_row b y) where
     pub some-reached : f < e → band f e ≡ reached_band b y
     unfolding divided
     some-reached h = rw (reached-divided, lt-ltb _ _ hb, ← hf, ← he, lt-ltb _ _ h)
@@ -165,6 +115,9 @@ module _ (b : Band) (y : Link) (hk : 0 < y.kernel) (hs : 0 < y.stride) where
   -- so the reached band holds only rows that are reached
   pub in-reached : (i : ℕ) → In i (reached_band b y) → (i < y.rows) × Hit b y i
   in-reached i w = in-divided i (rw reached-divided at w)
+
+-- what the code's answers rest on
+pub ruleset reaches = (some-reached, none-reached, reached-empty)
 
 -- ---- every window holds a real row
 
@@ -184,7 +137,7 @@ pub whole_reaches : (b : Band) (y : Link) (rows : ℕ) → y.before < y.kernel �
     → ((i : ℕ) → i < y.rows → i * y.stride < rows + y.before) → Inside (band 0 y.rows) (reached_band b y)
 whole_reaches b y rows hp hr h s i w =
     let x = window_real y rows i hp hr (s i w.1) in
-    reached-in b y i w.1 (x.0, h x.0 (omega (arith, x.2)), x.1)
+    reached-in b y i w.1 (x.0, h x.0 (omega arith), x.1)
 
 -- ---- a full layer and an add
 
@@ -196,25 +149,14 @@ add_link other rows = record { other = other; before = 0; kernel = 1; stride = 1
 
 -- a full layer's row is reached if the band, which lies within the input's rows, is not empty
 pub full_reach : (b : Band) (other rows : ℕ) → b.end ≤ rows → reached_band b (full_link other rows) ≡ cond (ltb b.first b.end) (band 0 1) none
-full_reach b other rows h = go (ltb b.first b.end) refl
-  where
-    y : Link
-    y = full_link other rows
-
-    go : (t : Bool) → ltb b.first b.end ≡ t → reached_band b y ≡ cond t (band 0 1) none
-    go true x =
-        let z : b.first < b.end = ltb-true _ _ x in
-        canon_once (reached_band b y) (band 0 1) (reached-canon b y) (inl (omega arith))
-        (reached-least b y (band 0 1) (λ i hi w. omega arith))
-        (λ i w. reached-in b y i w.1 (b.first, omega arith, omega arith))
-    go false x = reached-empty b y (ltb-false _ _ x)
+full_reach b other rows h =
+    canon_once _ _ (reached-canon b (full_link other rows)) (grind (arith, nat_tests))
+    (reached-least b (full_link other rows) _ (λ i hi w. grind (arith, nat_tests)))
+    (λ i w. reached-in b (full_link other rows) i (grind (arith, nat_tests)) (b.first, grind (arith, nat_tests), grind (arith, nat_tests)))
 
 -- an add's row i is reached if row i is in the band
 pub add_reach : (b : Band) (other rows : ℕ) → Canon b → b.end ≤ rows → reached_band b (add_link other rows) ≡ b
 add_reach b other rows c h =
-    canon_once (reached_band b y) b (reached-canon b y) c
-    (reached-least b y b (λ i hi w. omega arith))
-    (λ i w. reached-in b y i (omega arith) (i, w, omega arith))
-  where
-    y : Link
-    y = add_link other rows
+    canon_once _ b (reached-canon b (add_link other rows)) c
+    (reached-least b (add_link other rows) b (λ i hi w. omega arith))
+    (λ i w. reached-in b (add_link other rows) i (omega arith) (i, w, omega arith))

@@ -1,35 +1,39 @@
 // A band of rows.
-ghost use Rattle.std.specs.Prelude.{◌≡◌, max};
-ghost use Rattle.bands.specs.Band.{cover as cover_of};
+ghost use Rattle.std.specs.Prelude.{◌≡◌};
+ghost use Rattle.bands.specs.Band.{cover as cover_of, is_empty};
 
-use numbers::small::smaller;
-
-// The rows from first up to but not including end; empty is 0, 0.
-#[derive(Clone, Copy)]
+/// The rows from first up to but not including end; empty is 0, 0.
+#[derive(Clone, Copy, Debug, PartialEq, Eq)]
 pub struct Band {
     pub first: u16,
     pub end: u16,
 }
 
-// The larger of two.
-fn larger(a: u16, b: u16) -> u16
-    ensures { result ≡ max a b }
-{
-    if a < b { b } else { a }
+impl Band {
+    /// The band of no rows, as it is written.
+    pub const EMPTY: Band = Band { first: 0, end: 0 };
+
+    /// Whether no row is in it.
+    pub fn is_empty(self) -> bool
+        ensures { result ≡ is_empty self }
+    {
+        self.end <= self.first
+    }
 }
 
-// The smallest band that covers both.
+/// The smallest band that covers both.
+#[tactic(auto, unfolding(crate::specs::Band::cover))]
 pub fn cover(a: Band, b: Band) -> Band
     ensures { result ≡ cover_of a b }
 {
-    if a.end <= a.first {
+    if a.is_empty() {
         return b;
     }
-    if b.end <= b.first {
+    if b.is_empty() {
         return a;
     }
     Band {
-        first: smaller(a.first as usize, b.first as usize) as u16,
-        end: larger(a.end, b.end),
+        first: a.first.min(b.first),
+        end: a.end.max(b.end),
     }
 }

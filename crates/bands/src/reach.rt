@@ -7,11 +7,10 @@ ghost use Rattle.bands.specs.State.{band_of};
 
 use crate::band::{Band, cover};
 use crate::state::{State, band_of, with_band};
-use numbers::small::{less, smaller};
 use numbers::stride::strides_in;
 
-// How a layer hangs on its inputs: its second input (its first where it has one), and the rows of its window.
-#[derive(Clone, Copy)]
+/// How a layer hangs on its inputs: its second input (its first where it has one), and the rows of its window.
+#[derive(Clone, Copy, Debug, PartialEq, Eq)]
 pub struct Link {
     pub other: usize,
     pub before: u16,
@@ -20,29 +19,30 @@ pub struct Link {
     pub rows: u16,
 }
 
-// The smallest band covering the layer's rows that the band b of an input reaches, by two quotients.
+/// The smallest band covering the layer's rows that the band b of an input reaches, by two quotients.
+#[tactic(auto, using(crate::proofs::Reached::reaches))]
 pub fn reached(b: Band, y: Link) -> Band
+    // No ghost field of `Link` says this: a layer of any network has one, also a full layer of an input with no rows, whose kernel is 0.
     requires { (b.end ≤ tensor_most) × (y.before ≤ 256) × (0 < y.kernel) × (0 < y.stride) × (y.stride ≤ 4) }
     ensures { result ≡ reached_band b y }
 {
-    if b.first < b.end {
-        let before = y.before as usize;
-        let stride = y.stride as usize;
-        let from = less(b.first as usize + before + stride, y.kernel as usize);
-        let first = strides_in(from, stride);
-        let last = strides_in(b.end as usize + before - 1, stride);
-        let end = smaller(y.rows as usize, last + 1);
-        if first < end {
-            return Band {
-                first: first as u16,
-                end: end as u16,
-            };
-        }
+    if b.is_empty() {
+        return Band::EMPTY;
     }
-    Band { first: 0, end: 0 }
+    let stride = usize::from(y.stride);
+    let from = (b.first + y.before + y.stride).saturating_sub(y.kernel);
+    let first = strides_in(usize::from(from), stride) as u16;
+    let last = strides_in(usize::from(b.end + y.before - 1), stride) as u16;
+    let end = y.rows.min(last + 1);
+    if first < end {
+        Band { first, end }
+    } else {
+        Band::EMPTY
+    }
 }
 
-// The band of layer m's tensor grows by what the bands of its inputs reach.
+/// The band of layer m's tensor grows by what the bands of its inputs reach.
+#[tactic(auto, unfolding(crate::specs::Grow::grow_one))]
 pub fn grow_one(s: State, y: Link, m: usize) -> State
     requires tensors { (m < 16) × (y.other ≤ m) × ((band_of s m).end ≤ tensor_most) × ((band_of s y.other).end ≤ tensor_most) }
     requires window { (y.before ≤ 256) × (0 < y.kernel) × (0 < y.stride) × (y.stride ≤ 4) }

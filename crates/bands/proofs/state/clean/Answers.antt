@@ -1,27 +1,18 @@
-use mathlib.Core.Path.{◌≡◌, refl, sym}
+-- `bands::state::clean` meets its contract.
+use mathlib.Core.Path.{refl, ◌∙◌}
 use native.Mathlib.Omega.{arith}
-use native.Mathlib.Numerals.{add-one}
-use borrow.Author.Tests.{le-leb, lt-leb}
-use Rattle.lists.specs.Choice.{every}
-use Rattle.bands.specs.Band.{is_empty}
+use Rattle.std.proofs.Common.{rules, tests}
+use Rattle.std.proofs.lemmas.Iterator.{YieldsList-from_slice}
+use Rattle.std.proofs.lemmas.Iterator.Search.{all_from_yields_List}
+use Rattle.bands.specs.Band.{is_empty, none}
 use Rattle.bands.specs.State.{band_of, clean}
-use Rattle.lists.proofs.Choice.{every_more, every-not}
+use Rattle.bands.proofs.Every.{all_every}
 use Rattle.bands.proofs.state.clean.Goals as goal
-
-pub loop-t-init : goal.loop-t-init
-unfolding every
-loop-t-init c = (omega arith, refl)
-
-pub returns-then-b : goal.returns-then-b
-unfolding clean
-returns-then-b c = sym (every-not (λ k. is_empty (band_of c.args.s k)) 17 c.loop-t.t c.loop-t-test.true (lt-leb _ _ c.if-b.true))
-
-pub loop-t-preserved : goal.loop-t-preserved
-loop-t-preserved c =
-    (omega arith, rw add-one (every_more (λ k. is_empty (band_of c.args.s k)) c.loop-t.t c.loop-t.invariant.1 (le-leb _ _ c.if-b.false)))
 
 pub returns : goal.returns
 unfolding clean
 returns c =
-    let e : c.loop-t.t ≡ 17 = omega arith in
-    sym (rw e at c.loop-t.invariant.1)
+    let bands = c.args.s.bands in
+    all_from_yields_List is_empty _ _ c.all.result c.all.ensures.ran (YieldsList-from_slice bands cc)
+    (λ x b q k. search (rules, tests))
+    ∙ all_every is_empty (λ t. is_empty (band_of c.args.s t)) bands none (λ t h. refl) 17 (omega arith)

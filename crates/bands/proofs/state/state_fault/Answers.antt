@@ -1,39 +1,28 @@
-use mathlib.Core.Path.{◌≡◌, refl, sym, ◌∙◌}
-use mathlib.Core.Logic.{inl, inr}
-use native.Mathlib.Omega.{arith}
-use native.Mathlib.Numerals.{add-one}
+-- `bands::state::state_fault` meets its contract.
+use mathlib.Core.Path.{◌≡◌, refl, ap, ◌∙◌}
+use native.Mathlib.Nat.{zero-add}
+use Rattle.std.specs.List.{range_with_len}
+use Rattle.std.proofs.Common.{rules, tests}
+use Rattle.std.proofs.lemmas.Iterator.{YieldsList-from_range}
+use Rattle.std.proofs.lemmas.Iterator.Search.{all_from_yields_List}
+use Rattle.std.proofs.lemmas.List.FromFn.{get_or-range_with_len}
 use Rattle.lists.specs.Choice.{every}
 use Rattle.bands.specs.State.{fair_at, state_fault}
-use Rattle.lists.proofs.Choice.{every_more}
-use Rattle.bands.proofs.States.{tested, refused}
+use Rattle.bands.proofs.Every.{all_every}
 use Rattle.bands.proofs.state.state_fault.Goals as goal
-use Rattle.bands.proofs.state.state_fault.Goals.{then-t-count, else-t-count}
+use Rattle.bands.proofs.state.state_fault.Goals.{After-all}
 
-pub loop-t-init : goal.loop-t-init
-unfolding every
-loop-t-init c = (omega arith, refl)
+passed : (c : After-all) → c.all.result ≡ every 17 (fair_at c.args.s c.args.n)
+passed c =
+    let p = fair_at c.args.s c.args.n in
+    all_from_yields_List p _ _ c.all.result c.all.ensures.ran (YieldsList-from_range 0 17 17 refl refl)
+    (λ x b q k. search (rules, tests))
+    ∙ all_every p p (range_with_len 0 17) 0 (λ t h. ap p (get_or-range_with_len 0 17 t 0 h ∙ zero-add t)) 17 refl
 
-pub returns-then-not-fine : goal.returns-then-not-fine
-returns-then-not-fine c =
-    -- what the turn's test says of tensor t
-    let fine = tested c.args.s c.args.n c.loop-t.t c.if-t-count.fine
-    (elim c.if-t-count.branch [
-      | then-t-count w ↦ inl (w.if-t-count.true, w.fine-is ∙ w.is_fair-fine.ensures)
-      | else-t-count w ↦ inr (w.if-t-count.false, w.fine-is ∙ w.is_absent-fine.ensures)
-    ]) in
-    sym (refused c.args.s c.args.n c.loop-t.t c.loop-t-test.true (sym fine ∙ c.if-not-fine.true))
-
-pub loop-t-preserved : goal.loop-t-preserved
-loop-t-preserved c =
-    let fine = tested c.args.s c.args.n c.loop-t.t c.if-t-count.fine
-    (elim c.if-t-count.branch [
-      | then-t-count w ↦ inl (w.if-t-count.true, w.fine-is ∙ w.is_fair-fine.ensures)
-      | else-t-count w ↦ inr (w.if-t-count.false, w.fine-is ∙ w.is_absent-fine.ensures)
-    ]) in
-    (omega arith, rw add-one (every_more (fair_at c.args.s c.args.n) c.loop-t.t c.loop-t.invariant.1 (sym fine ∙ c.if-not-fine.false)))
-
-pub returns : goal.returns
+pub returns-then-all : goal.returns-then-all
 unfolding state_fault
-returns c =
-    let e : c.loop-t.t ≡ 17 = omega arith in
-    rw (rw e at c.loop-t.invariant.1)
+returns-then-all c = rw (← passed (goal.at.returns-then-all c).After-all, c.if-all.true)
+
+pub returns-else-all : goal.returns-else-all
+unfolding state_fault
+returns-else-all c = rw (← passed (goal.at.returns-else-all c).After-all, c.if-all.false)
