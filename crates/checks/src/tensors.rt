@@ -6,25 +6,19 @@ ghost use Rattle.checks.specs.Tensors.{tensors_of, frame_link, link_of};
 
 use bands::reach::Link;
 use bands::state::Tensors;
-use network::net::{Network, layer, tensor};
+use network::net::Network;
 use records::frame::Frame;
 use records::layer::Kind;
+use std::array;
 
 // The rows of each tensor.
-pub fn tensors_of(n: Network) -> Tensors
-    requires { (t : ℕ) → (tensor_of n t).rows ≤ tensor_most }
-    ensures { result ≡ tensors_of n }
+pub fn tensors_of(n: &Network) -> Tensors
+    requires { (t : ℕ) → (tensor_of n.now t).rows ≤ tensor_most }
+    ensures { result ≡ tensors_of n.now }
 {
-    let mut rows = [0u16; 17];
-    let mut t: usize = 0;
-    while t < 17 {
-        let s = tensor(n, t);
-        rows[t] = s.rows as u16;
-        t += 1;
-    }
     Tensors {
         count: n.count,
-        rows,
+        rows: array::from_fn(|t| n.tensor(t).rows as u16),
     }
 }
 
@@ -42,36 +36,27 @@ fn frame_link(f: Frame, m: usize, rows: u16) -> Link
 }
 
 // How layer m hangs on its inputs.
-pub fn link_of(n: Network, m: usize) -> Link
-    requires { (m < 16) × ((layer_of n m).input.rows ≤ tensor_most) × ((layer_of n m).output.rows ≤ tensor_most) }
-    ensures { result ≡ link_of n m }
+pub fn link_of(n: &Network, m: usize) -> Link
+    requires { (m < 16) × ((layer_of n.now m).input.rows ≤ tensor_most) × ((layer_of n.now m).output.rows ≤ tensor_most) }
+    ensures { result ≡ link_of n.now m }
 {
-    let y = layer(n, m);
-    let input = y.input;
-    let output = y.output;
-    let rows = output.rows as u16;
-    let kind = y.kind;
-    match kind {
-        Kind::Conv(c) => {
-            let frame = c.frame;
-            frame_link(frame, m, rows)
-        }
+    let y = n.layer(m);
+    let rows = y.output.rows as u16;
+    match y.kind {
+        Kind::Conv(c) => frame_link(c.frame, m, rows),
         Kind::Full(_) => Link {
             other: m,
             before: 0,
-            kernel: input.rows as u16,
+            kernel: y.input.rows as u16,
             stride: 1,
             rows,
         },
-        Kind::Add(a) => {
-            let other = a.other as usize;
-            Link {
-                other,
-                before: 0,
-                kernel: 1,
-                stride: 1,
-                rows,
-            }
-        }
+        Kind::Add(a) => Link {
+            other: a.other as usize,
+            before: 0,
+            kernel: 1,
+            stride: 1,
+            rows,
+        },
     }
 }

@@ -1,6 +1,7 @@
-// The tests of the calls: 0, or the refusal number.
-ghost use Rattle.std.specs.Prelude.{◌≡◌, ◌+◌, ◌≤◌, ◌<◌, length};
+// The tests of the calls. Each answers nothing where it holds, else the refusal.
+ghost use Rattle.std.specs.Prelude.{◌≡◌, ◌+◌, ◌≤◌, length, IfOk};
 ghost use Rattle.numbers.specs.Limits.{tensor_most};
+ghost use Rattle.refusals.specs.Refusal.{fault_of};
 ghost use Rattle.records.specs.Layer.{sums_of, terms_of};
 ghost use Rattle.fields.specs.Asked.{GoodShape};
 ghost use Rattle.network.specs.Network.{tensor_of};
@@ -10,29 +11,19 @@ ghost use Rattle.checks.specs.Tests.{room_fault, layer_sums_fit, sums_fault, loa
 
 use crate::tensors::tensors_of;
 use bands::state::{State, clean, state_fault};
-use fields::faults::first_of;
+use fields::faults::unless;
 use fields::shape::bytes_of;
 use network::file::decode;
-use network::net::{Network, layer, tensor};
+use network::net::Network;
 use records::layer::{Layer, sums_of, terms_of};
-
-// The fault met so far, and the network of the file.
-#[derive(Clone, Copy)]
-pub struct Tested {
-    pub fault: u8,
-    pub network: Network,
-}
+use refusals::refusal::Refusal;
 
 // Test 4.
-fn room_fault(n: Network, sums: usize, area: usize) -> u8
-    ensures { result ≡ room_fault n sums area }
+#[tactic(auto, unfolding(crate::specs::Tests::room_fault))]
+fn room_fault(n: &Network, sums: usize, area: usize) -> Result<(), Refusal>
+    ensures { fault_of result ≡ room_fault n.now sums area }
 {
-    if n.store <= sums {
-        if n.area <= area {
-            return 0;
-        }
-    }
-    4
+    unless(n.store <= sums && n.area <= area, Refusal::NoRoom)
 }
 
 // Whether no stored sum of a layer is above 255N.
@@ -43,112 +34,82 @@ fn sums_fit(y: Layer, sums: &[u32]) -> bool
     ensures { result ≡ layer_sums_fit y sums.now }
 {
     let most = 255 * terms_of(y) as u32;
-    let kind = y.kind;
-    let count = sums_of(kind);
-    let at = y.sums;
-    let mut f: usize = 0;
-    while f < count {
-        if most < sums[at + f] {
-            return false;
-        }
-        f += 1;
-    }
-    true
+    let end = y.sums + sums_of(y.kind);
+    sums[y.sums..end].iter().all(|&sum| sum <= most)
 }
 
 // Test 6.
-fn sums_fault(file: &[u8], n: Network, sums: &[u32]) -> u8
-    requires taken { Taken file.now n }
-    requires store_in_bounds { n.store ≤ length sums.now }
-    ensures { result ≡ sums_fault n sums.now }
+fn sums_fault(file: &[u8], n: &Network, sums: &[u32]) -> Result<(), Refusal>
+    requires taken { Taken file.now n.now }
+    requires store_in_bounds { n.now.store ≤ length sums.now }
+    ensures { fault_of result ≡ sums_fault n.now sums.now }
 {
-    let count = n.count;
-    let mut m: usize = 0;
-    while m < count {
-        if !sums_fit(layer(n, m), sums) {
-            return 6;
+    for m in 0..n.count {
+        if !sums_fit(n.layer(m), sums) {
+            return Err(Refusal::BadSums);
         }
-        m += 1;
     }
-    0
+    Ok(())
 }
 
 // Tests 1 to 4, with the lengths of the sum store and of the area.
-pub fn test_load(file: &[u8], sums: usize, area: usize) -> Tested
-    ensures { (result.fault ≡ load_fault file.now sums area) × (result.network ≡ (decode_of file.now).network) }
+#[tactic(auto, using(fields::proofs::Refusals::in_order), unfolding(crate::specs::Tests::load_fault))]
+pub fn test_load(file: &[u8], sums: usize, area: usize) -> Result<Network, Refusal>
+    ensures fault { fault_of result ≡ load_fault file.now sums area }
+    ensures network { IfOk result (λ n. n ≡ (decode_of file.now).network) }
 {
-    let d = decode(file);
-    let network = d.network;
-    Tested {
-        fault: first_of(d.fault, room_fault(network, sums, area)),
-        network,
-    }
+    let network = decode(file)?;
+    room_fault(&network, sums, area)?;
+    Ok(network)
 }
 
 // Tests 1 to 6.
-pub fn test_call(file: &[u8], sums: &[u32], area: usize, s: State) -> Tested
-    ensures { (result.fault ≡ call_fault file.now sums.now area s) × (result.network ≡ (decode_of file.now).network) }
+#[tactic(auto, using(fields::proofs::Refusals::in_order))]
+pub fn test_call(file: &[u8], sums: &[u32], area: usize, s: State) -> Result<Network, Refusal>
+    ensures fault { fault_of result ≡ call_fault file.now sums.now area s }
+    ensures network { IfOk result (λ n. n ≡ (decode_of file.now).network) }
 {
-    let t = test_load(file, sums.len(), area);
-    let network = t.network;
-    if t.fault != 0 {
-        return Tested {
-            fault: t.fault,
-            network,
-        };
-    }
-    let state = state_fault(s, tensors_of(network));
-    Tested {
-        fault: first_of(state, sums_fault(file, network, sums)),
-        network,
-    }
+    let network = test_load(file, sums.len(), area)?;
+    state_fault(s, tensors_of(&network))?;
+    sums_fault(file, &network, sums)?;
+    Ok(network)
 }
 
 // Test 7 of change rows. The sums cannot wrap, since each test is made only where the ones before it hold.
-pub fn rows_fault(n: Network, first: usize, count: usize, len: usize) -> u8
-    requires { GoodShape n.picture }
-    ensures { result ≡ rows_fault n first count len }
+#[tactic(auto, unfolding(crate::specs::Tests::rows_fault))]
+pub fn rows_fault(n: &Network, first: usize, count: usize, len: usize) -> Result<(), Refusal>
+    requires { GoodShape n.now.picture }
+    ensures { fault_of result ≡ rows_fault n.now first count len }
 {
     let picture = n.picture;
-    let rows = picture.rows;
-    if 1 <= count {
-        if count <= rows {
-            if first <= rows - count {
-                if len == count * (picture.columns * picture.channels) {
-                    return 0;
-                }
-            }
-        }
-    }
-    7
+    let within = 1 <= count && count <= picture.rows && first <= picture.rows - count;
+    unless(
+        within && len == count * (picture.columns * picture.channels),
+        Refusal::BadArguments,
+    )
 }
 
 // Test 7 of replace layer.
-pub fn layer_fault(n: Network, k: usize) -> u8
-    ensures { result ≡ layer_fault n k }
+#[tactic(auto, unfolding(crate::specs::Tests::layer_fault))]
+pub fn layer_fault(n: &Network, k: usize) -> Result<(), Refusal>
+    ensures { fault_of result ≡ layer_fault n.now k }
 {
-    if 1 <= k {
-        if k <= n.count {
-            return 0;
-        }
-    }
-    7
+    unless(1 <= k && k <= n.count, Refusal::BadArguments)
 }
 
 // Test 7 of read.
-pub fn slice_fault(n: Network, len: usize) -> u8
-    requires { (n.count ≤ 16) × GoodShape (tensor_of n n.count) }
-    ensures { result ≡ slice_fault n len }
+#[tactic(auto, unfolding(crate::specs::Tests::slice_fault))]
+pub fn slice_fault(n: &Network, len: usize) -> Result<(), Refusal>
+    requires { (n.now.count ≤ 16) × GoodShape (tensor_of n.now n.now.count) }
+    ensures { fault_of result ≡ slice_fault n.now len }
 {
-    if len == bytes_of(tensor(n, n.count)) {
-        return 0;
-    }
-    7
+    unless(len == bytes_of(n.tensor(n.count)), Refusal::BadArguments)
 }
 
 // Test 8.
-pub fn stale_fault(s: State) -> u8
-    ensures { result ≡ stale_fault s }
+#[tactic(auto, unfolding(crate::specs::Tests::stale_fault))]
+pub fn stale_fault(s: State) -> Result<(), Refusal>
+    ensures { fault_of result ≡ stale_fault s }
 {
-    if clean(s) { 0 } else { 8 }
+    unless(clean(s), Refusal::Stale)
 }
