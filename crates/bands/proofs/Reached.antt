@@ -8,7 +8,6 @@ use mathlib.Core.Bool.{true, cond}
 use native.Mathlib.Nat.{div-lt_iff_lt-mul, le-div_iff_mul-le}
 use native.Mathlib.Omega.{arith}
 use lib.Dec.{ltb}
-use borrow.Author.Tests.{lt-ltb, le-ltb}
 use Rattle.std.proofs.lemmas.Bool.Decides.{nat_tests}
 use Rattle.bands.specs.declared.band.Band.{Band}
 use Rattle.bands.specs.declared.reach.Link.{Link}
@@ -102,22 +101,12 @@ module _ (b : Band) (y : Link) (hk : 0 < y.kernel) (hs : 0 < y.stride) where
       let x = in-divided i w in
       reached-in b y i x.0 x.1)
 
-  -- what the code returns for a band that is not empty
-  module _ (f e : ℕ) (hb : b.first < b.end) (hf : f ≡ from_row b y) (he : e ≡ to_row b y) where
-    pub some-reached : f < e → band f e ≡ reached_band b y
-    unfolding divided
-    some-reached h = rw (reached-divided, lt-ltb _ _ hb, ← hf, ← he, lt-ltb _ _ h)
-
-    pub none-reached : e ≤ f → none ≡ reached_band b y
-    unfolding divided
-    none-reached h = rw (reached-divided, lt-ltb _ _ hb, ← hf, ← he, le-ltb _ _ h)
-
   -- so the reached band holds only rows that are reached
   pub in-reached : (i : ℕ) → In i (reached_band b y) → (i < y.rows) × Hit b y i
   in-reached i w = in-divided i (rw reached-divided at w)
 
 -- what the code's answers rest on
-pub ruleset reaches = (some-reached, none-reached, reached-empty)
+pub ruleset reaches = (reached-divided, nat_tests)
 
 -- ---- every window holds a real row
 

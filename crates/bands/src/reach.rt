@@ -20,7 +20,7 @@ pub struct Link {
 }
 
 /// The smallest band covering the layer's rows that the band b of an input reaches, by two quotients.
-#[tactic(auto, using(crate::proofs::Reached::reaches))]
+#[tactic(auto, using(crate::proofs::Reached::reaches), unfolding(crate::proofs::Reached::divided))]
 pub fn reached(b: Band, y: Link) -> Band
     // No ghost field of `Link` says this: a layer of any network has one, also a full layer of an input with no rows, whose kernel is 0.
     requires { (b.end ≤ tensor_most) × (y.before ≤ 256) × (0 < y.kernel) × (0 < y.stride) × (y.stride ≤ 4) }
