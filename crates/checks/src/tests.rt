@@ -64,7 +64,7 @@ pub fn test_load(file: &[u8], sums: usize, area: usize) -> Result<Network, Refus
 }
 
 // Tests 1 to 6.
-#[tactic(auto, using(fields::proofs::Refusals::in_order))]
+#[tactic(auto, using(fields::proofs::Refusals::in_order, crate::proofs::Passed::call_is))]
 pub fn test_call(file: &[u8], sums: &[u32], area: usize, s: State) -> Result<Network, Refusal>
     ensures fault { fault_of result ≡ call_fault file.now sums.now area s }
     ensures network { IfOk result (λ n. n ≡ (decode_of file.now).network) }
