@@ -2,7 +2,7 @@
 ghost use Rattle.std.specs.Prelude.{◌≡◌};
 ghost use Rattle.clew.specs.Calls.{load_of};
 
-use crate::outcome::{Outcome, plain};
+use crate::outcome::{Outcome, done, refused};
 use bands::state::{after_load, all_stale};
 use checks::tensors::tensors_of;
 use checks::tests::test_load;
@@ -13,11 +13,11 @@ use updates::fill::fill_sums;
 pub fn load(file: &[u8], sums: &mut [u32], area: &[u8]) -> Outcome
     ensures { (result, sums.new) ≡ load_of file.now sums.old area.now }
 {
-    let t = test_load(file, sums.len(), area.len());
-    let network = t.network;
-    if t.fault != 0 {
-        return plain(t.fault, all_stale());
+    match test_load(file, sums.len(), area.len()) {
+        Ok(network) => {
+            fill_sums(file, &network, sums);
+            done(after_load(tensors_of(&network)))
+        }
+        Err(refusal) => refused(refusal, all_stale()),
     }
-    fill_sums(file, network, sums);
-    plain(0, after_load(tensors_of(network)))
 }

@@ -2,7 +2,7 @@
 ghost use Rattle.std.specs.Prelude.{◌≡◌};
 ghost use Rattle.clew.specs.Calls.{update_of};
 
-use crate::outcome::{Outcome, plain};
+use crate::outcome::{Outcome, refused};
 use bands::state::{State, all_empty};
 use checks::tests::test_call;
 use updates::recompute::recompute;
@@ -11,15 +11,12 @@ use updates::recompute::recompute;
 pub fn update(file: &[u8], sums: &[u32], area: &mut [u8], state: State) -> Outcome
     ensures { (result, area.new) ≡ update_of file.now sums.now area.old state }
 {
-    let t = test_call(file, sums, area.len(), state);
-    let network = t.network;
-    if t.fault != 0 {
-        return plain(t.fault, state);
-    }
-    let count = recompute(file, network, sums, area, state);
-    Outcome {
-        number: 0,
-        count,
-        state: all_empty(),
+    match test_call(file, sums, area.len(), state) {
+        Ok(network) => Outcome {
+            number: 0,
+            count: recompute(file, &network, sums, area, state),
+            state: all_empty(),
+        },
+        Err(refusal) => refused(refusal, state),
     }
 }
