@@ -84,11 +84,8 @@ pub fn put_outputs(o: Outputs, file: &[u8], sums: &[u32], q: &[u8], area: &mut [
     ensures { area.new ≡ pasted area.old at (outputs_of o file.now sums.now q.now) }
 {
     let bytes = byte_total(q);
-    let count = o.count;
-    let mut f = 0;
-    while f < count {
-        area[at + f] = output_at(o, file, sums, q, bytes, f);
-        f += 1;
+    for (f, byte) in area[at..at + o.count].iter_mut().enumerate() {
+        *byte = output_at(o, file, sums, q, bytes, f);
     }
 }
 
@@ -108,13 +105,11 @@ pub fn put_within(
     requires room { at + o.count ≤ length area.old }
     ensures { area.new ≡ pasted area.old at (outputs_of o file.now sums.now (part area.old from n)) }
 {
-    let end = from + n;
-    let bytes = byte_total(&area[from..end]);
-    let count = o.count;
-    let mut f = 0;
-    while f < count {
-        let b = output_at(o, file, sums, &area[from..end], bytes, f);
-        area[at + f] = b;
-        f += 1;
+    if from + n <= at {
+        let (before, rest) = area.split_at_mut(at);
+        put_outputs(o, file, sums, &before[from..from + n], rest, 0);
+    } else {
+        let (before, rest) = area.split_at_mut(from);
+        put_outputs(o, file, sums, &rest[..n], before, at);
     }
 }
