@@ -28,9 +28,9 @@ filled {A} d z at n v items h e w =
     rw (ones_length n v, ← all, m, drop-drop, append_assoc)
 
 -- what is pasted into the rest of a list, from at on, and into the front of it, up to at
-pub pasted-rest : {A : Type 0} (d : List A) (at : ℕ) (s : List A) → take at d ++ pasted (drop at d) 0 s ≡ pasted d at s
+pub pasted_rest : {A : Type 0} (d : List A) (at : ℕ) (s : List A) → take at d ++ pasted (drop at d) 0 s ≡ pasted d at s
 unfolding pasted
-pasted-rest d at s = simp (zero-add, drop-drop, append_assoc)
+pasted_rest d at s = simp (zero-add, drop-drop, append_assoc)
 
 pub pasted_front : {A : Type 0} (d : List A) (m at : ℕ) (s : List A) → at + length s ≤ m → pasted (take m d) at s ++ drop m d ≡ pasted d at s
 unfolding pasted

@@ -97,18 +97,18 @@ full_bytes s f e = ap bytes_of e ∙ omega arith
 
 -- row i of an add of two tensors of `size` bytes that stand in one area, laid from its place
 pub add_done :
-    (a : Add) (z z' : ℕ) (area : List ℕ) (from other place size i w : ℕ) {w' skip : ℕ} {area' : List ℕ} →
-    w' ≡ w →
-    skip ≡ i * w' →
-    skip + w' ≤ size →
-    area' ≡ pasted area (place + skip) (joined w' (λ k. add_byte a z z' (get_or area (from + skip + k) 0) (get_or area (other + skip + k) 0) ∷ [])) →
+    (a : Add) (z z' : ℕ) (area : List ℕ) (from other place size i w : ℕ) {first second at : ℕ} {area' : List ℕ} →
+    first ≡ from + i * w →
+    second ≡ other + i * w →
+    at ≡ place + i * w →
+    i * w + w ≤ size →
+    area' ≡ pasted area at (joined w (λ k. add_byte a z z' (get_or area (first + k) 0) (get_or area (second + k) 0) ∷ [])) →
     area' ≡ pasted area (place + i * w) (add_row a z z' w (part area from size) (part area other size) i)
 unfolding add_row
-add_done a z z' area from other place size i w {w'} {skip} ew es h e =
-    e ∙ ap (pasted area (place + skip)) (joined_same w' (λ k g. ap₂ (λ (q r : ℕ). add_byte a z z' q r ∷ []) (byte from k g) (byte other k g))) ∙
-    rw (es, ew)
+add_done a z z' area from other place size i w ef es ea h e =
+    rw (e, ea) (ap (pasted area (place + i * w)) (joined_same w (λ k g. ap₂ (λ (q r : ℕ). add_byte a z z' q r ∷ []) (byte from k ef g) (byte other k es g))))
   where
-    byte : (at k : ℕ) → k < w' → get_or area (at + skip + k) 0 ≡ get_or (part area at size) (i * w' + k) 0
-    byte at k g =
-        let there : at + skip + k ≡ at + (i * w' + k) = omega arith in
-        rw (part_at area 0 at size (i * w' + k) (omega arith), there)
+    byte : (from k : ℕ) {at : ℕ} → at ≡ from + i * w → k < w → get_or area (at + k) 0 ≡ get_or (part area from size) (i * w + k) 0
+    byte from k e g =
+        let there : from + (i * w + k) ≡ from + i * w + k = omega arith in
+        rw (part_at area 0 from size (i * w + k) (omega arith), there, e)

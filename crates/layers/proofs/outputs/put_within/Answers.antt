@@ -5,7 +5,7 @@ use Rattle.lists.specs.Lists.{part}
 use Rattle.lists.proofs.Pasted.{part-part}
 use Rattle.lists.proofs.Laid.{cut_is}
 use Rattle.layers.proofs.Lengths.{outputs_length}
-use Rattle.layers.proofs.Filled.{pasted-rest, pasted_front}
+use Rattle.layers.proofs.Filled.{pasted_rest, pasted_front}
 use Rattle.layers.proofs.outputs.put_within.Goals as goal
 
 pub returns-then-from-n : goal.returns-then-from-n
@@ -14,7 +14,7 @@ returns-then-from-n c =
     let d = a.area.now in
     let put = c.put_outputs.ensures in
     let s = c.split_at_mut-before.ensures in
-    rw (put, s.front, s.back, cut_is, part-part d 0 a.at a.from a.n c.if-from-n.true, zero-add) (pasted-rest d a.at _)
+    rw (put, s.front, s.back, cut_is, part-part d 0 a.at a.from a.n c.if-from-n.true, zero-add) (pasted_rest d a.at _)
 
 pub returns-else-from-n : goal.returns-else-from-n
 returns-else-from-n c =
