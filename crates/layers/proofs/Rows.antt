@@ -32,10 +32,6 @@ rows_in s i k h = omega (arith, mul-le-mul_right {m = i + k} {n = s.rows} (row_b
 pub row_in : (s : Shape) (i : ℕ) → i < s.rows → i * row_bytes s + row_bytes s ≤ bytes_of s
 row_in s i h = omega (arith, rows_in s i 1 (omega arith))
 
--- the same, with the numbers as the code has them
-pub row_skip : (s : Shape) (i : ℕ) {w skip : ℕ} → i < s.rows → w ≡ row_bytes s → skip ≡ i * w → skip + w ≤ bytes_of s
-row_skip s i h ew es = omega (arith, es ∙ ap (λ (m : ℕ). i * m) ew, row_in s i h)
-
 -- a convolution's output has a channel for each filter
 pub filters_are : (y : Layer) (c : Conv) {file sums : List ℕ} → ConvReady y c file sums → y.output.channels ≡ c.filters
 unfolding frame_output
