@@ -3,7 +3,7 @@
 use mathlib.Core.Path.{◌≡◌, refl, sym, ap, ap₂, ◌∙◌}
 use mathlib.Core.List.{List}
 use Prim.Native.Nat.{ℕ, ◌+◌, ◌-◌, ◌*◌, ◌/◌, ◌≤◌, ◌<◌}
-use native.Mathlib.Nat.{mul-le-mul_left, mul-le-mul_right, div-add-mod'}
+use native.Mathlib.Nat.{mul-le-mul_right, div-add-mod'}
 use native.Mathlib.Omega.{arith}
 use lib.ListN.{length, take}
 use Rattle.fields.specs.Shape.{bytes_of, row_bytes}
@@ -32,30 +32,20 @@ use Rattle.layers.proofs.Totals.{ready_any}
 
 -- ---- a window that is gathered
 
--- the cells of a tensor, and those of a kernel
-pub cells_few : (w : Window) → SmallWindow w → w.rows * w.columns ≤ 16384
-cells_few w s = omega (arith, s.size, mul-le-mul_left (w.rows * w.columns) s.channels-some)
-
+-- the cells of a kernel
 pub taps_few : (w : Window) → SmallWindow w → w.height * w.width ≤ 49
 taps_few w s = mul_most w.height w.width 7 7 s.height s.width
 
--- a product of three numbers, as the code makes it
-pub product : (a b k : ℕ) {m n : ℕ} → m ≡ a * b → n ≡ m * k → n ≡ a * b * k
-product a b k em en = en ∙ ap (λ (x : ℕ). x * k) em
-
 -- the patch that is made of the part of the area begins with the window of the tensor that stands there
 pub patch_is :
-    (w : Window) (area d : List ℕ) (from p q : ℕ) {n k : ℕ} {patch : List ℕ} →
-    n ≡ size_of w →
-    k ≡ window_bytes w →
+    (w : Window) (area d : List ℕ) (from p q : ℕ) {patch : List ℕ} →
     from + size_of w ≤ length area →
-    patch ≡ pasted d 0 (window_of w (part area from (from + n - from)) p q) →
-    take k patch ≡ window_of w (part area from (size_of w)) p q
-patch_is w area d from p q {n} {k} en ek h e =
+    patch ≡ pasted d 0 (window_of w (part area from (from + size_of w - from)) p q) →
+    take (window_bytes w) patch ≡ window_of w (part area from (size_of w)) p q
+patch_is w area d from p q h e =
     let t = part area from (size_of w) in
-    let tensor : part area from (from + n - from) ≡ t = cut_is area from n ∙ ap (part area from) en in
-    let size = window-length w t p q (part_length area from (size_of w) h) in
-    rw (e, tensor) (part-pasted d (window_of w t p q) 0 k (size ∙ sym ek) (omega arith))
+    rw (e, cut_is area from (size_of w))
+    (part-pasted d (window_of w t p q) 0 (window_bytes w) (window-length w t p q (part_length area from (size_of w) h)) (omega arith))
 
 -- ---- the places of a row
 

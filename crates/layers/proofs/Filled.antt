@@ -39,4 +39,5 @@ pasted_front d m at s h =
     let j = m - n in
     let e : m ≡ n + j = omega arith in
     let g : at ≤ n + j = omega arith in
-    rw (e, take-take at (n + j) d g, drop-take n j d, ← (drop-drop j n d), append_assoc, take-append-drop)
+    let whole = ap (λ t. take at d ++ s ++ t) (take-append-drop j (drop n d)) in
+    rw (e, take-take at (n + j) d g, drop-take n j d, ← (drop-drop j n d)) (append_assoc (take at d ++ s) (take j (drop n d)) (drop j (drop n d)) ∙ whole)

@@ -1,6 +1,6 @@
 -- The rows of a tensor, and those that a layer of each kind makes.
 -- Assumes nothing.
-use mathlib.Core.Path.{◌≡◌, sym, ap, ap₂, subst, ◌∙◌}
+use mathlib.Core.Path.{◌≡◌, ap, ap₂, ◌∙◌}
 use mathlib.Core.List.{List, [], ◌∷◌}
 use Prim.Native.Nat.{ℕ, ◌+◌, ◌-◌, ◌*◌, ◌≤◌, ◌<◌}
 use native.Mathlib.Nat.{mul-le-mul_right}
@@ -13,13 +13,12 @@ use Rattle.fields.specs.declared.shape.Shape.{Shape}
 use Rattle.records.specs.declared.conv.Conv.{Conv}
 use Rattle.records.specs.declared.full.Full.{Full}
 use Rattle.records.specs.declared.add.Add.{Add}
-use Rattle.records.specs.declared.layer.Kind.{Kind}
 use Rattle.records.specs.declared.layer.Layer.{Layer}
 use Rattle.lists.specs.Lists.{pasted, joined, part}
 use Rattle.lists.proofs.Pasted.{apart_within, joined_same}
 use Rattle.layers.specs.Add.{add_byte, add_row}
-use Rattle.layers.specs.Row.{tensor_at, row_by, row_of}
-use Rattle.layers.specs.Asked.{ConvReady, KindReady, Placed, Ready}
+use Rattle.layers.specs.Row.{tensor_at, row_of}
+use Rattle.layers.specs.Asked.{ConvReady, Placed, Ready}
 use Rattle.lists.proofs.Laid.{Laid, part_at, laid_more, laid-apart}
 use Rattle.layers.proofs.Lengths.{ready_shaped, row_length}
 
@@ -71,20 +70,6 @@ module _ (y : Layer) (z z' : ℕ) (file sums : List ℕ) (from other : ℕ) wher
       rw steps
       (laid_more (end - first) _ area at w (i - first) long inside (omega arith) place l
       (e ∙ cc (kept from r.first, kept other r.second, row)) same)
-
--- what a layer needs, and its rows, by its kind
-module _ (y : Layer) (kind : Kind) (e : y.kind ≡ kind) where
-  pub ready-as : {file sums : List ℕ} {room from other : ℕ} → Ready y file sums room from other → KindReady kind y file sums
-  ready-as {file} {sums} r = subst (λ k. KindReady k y file sums) e r.kind
-
-  pub row_as : (z z' : ℕ) (file sums t t' : List ℕ) (i : ℕ) → row_by kind y z z' file sums t t' i ≡ row_of y z z' file sums t t' i
-  row_as z z' file sums t t' i = ap (λ k. row_by k y z z' file sums t t' i) (sym e)
-
--- a full layer has one row
-pub full_place : (y : Layer) (f : Full) (i : ℕ) → y.output ≡ full_output f → i < y.output.rows → y.place ≡ y.place + i * row_bytes y.output
-full_place y f i e h =
-    let none : i ≡ 0 = omega (arith, ap (λ (s : Shape). s.rows) e) in
-    omega (arith, ap (λ (k : ℕ). k * row_bytes y.output) none)
 
 -- a full layer's output has a byte for each of its outputs
 pub full_bytes : (s : Shape) (f : Full) → s ≡ full_output f → bytes_of s ≡ f.outputs

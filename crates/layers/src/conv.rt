@@ -13,7 +13,6 @@ ghost use Rattle.layers.specs.Row.{tensor_at};
 
 use crate::outputs::{Outputs, outputs_for, put_outputs, put_within};
 use crate::start::row_start;
-use numbers::small::times;
 use records::conv::Conv;
 use records::layer::Layer;
 use windows::window::{Window, gather};
@@ -65,9 +64,9 @@ fn conv_place(
     requires patch_room { window_bytes w ≤ length patch.old }
     ensures { area.new ≡ pasted area.old at (outputs_of o file.now sums.now (window_of w (part area.old from (size_of w)) p q)) }
 {
-    let n = times(times(w.height, w.width), w.channels);
-    let end = from + times(times(w.rows, w.columns), w.channels);
-    gather(w, &area[from..end], patch, p, q);
+    let n = w.height * w.width * w.channels;
+    let size = w.rows * w.columns * w.channels;
+    gather(w, &area[from..from + size], patch, p, q);
     put_outputs(o, file, sums, &patch[..n], area, at);
 }
 

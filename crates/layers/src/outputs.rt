@@ -71,10 +71,9 @@ fn output_at(o: Outputs, file: &[u8], sums: &[u32], q: &[u8], bytes: u32, f: usi
     ensures { result ≡ output_of o file.now sums.now q.now f }
 {
     let n = q.len();
-    let a = o.weights + f * n;
-    let e = a + n;
+    let first = o.weights + f * n;
     let bias = signed_of(u32_at(file, o.biases + 4 * f));
-    output(o, q, &file[a..e], bytes, bias, sums[o.sums + f])
+    output(o, q, &file[first..first + n], bytes, bias, sums[o.sums + f])
 }
 
 // The outputs at the window q, to area from at.
