@@ -1,9 +1,9 @@
 -- A convolution: its window, the places of its output, and its rows.
 -- Assumes nothing.
-use mathlib.Core.Path.{◌≡◌, sym, ap, ap₂, ◌∙◌}
+use mathlib.Core.Path.{◌≡◌, refl, sym, ap, ap₂, ◌∙◌}
 use mathlib.Core.List.{List}
 use Prim.Native.Nat.{ℕ, ◌+◌, ◌-◌, ◌*◌, ◌/◌, ◌≤◌, ◌<◌}
-use native.Mathlib.Nat.{mul-le-mul_left, mul-le-mul_right, div-add-mod'}
+use native.Mathlib.Nat.{mul-le-mul_right, div-add-mod'}
 use native.Mathlib.Omega.{arith}
 use lib.ListN.{length, take}
 use Rattle.fields.specs.Shape.{bytes_of, row_bytes}
@@ -32,30 +32,20 @@ use Rattle.layers.proofs.Totals.{ready_any}
 
 -- ---- a window that is gathered
 
--- the cells of a tensor, and those of a kernel
-pub cells_few : (w : Window) → SmallWindow w → w.rows * w.columns ≤ 16384
-cells_few w s = omega (arith, s.size, mul-le-mul_left (w.rows * w.columns) s.channels-some)
-
+-- the cells of a kernel
 pub taps_few : (w : Window) → SmallWindow w → w.height * w.width ≤ 49
 taps_few w s = mul_most w.height w.width 7 7 s.height s.width
 
--- a product of three numbers, as the code makes it
-pub product : (a b k : ℕ) {m n : ℕ} → m ≡ a * b → n ≡ m * k → n ≡ a * b * k
-product a b k em en = en ∙ ap (λ (x : ℕ). x * k) em
-
 -- the patch that is made of the part of the area begins with the window of the tensor that stands there
 pub patch_is :
-    (w : Window) (area d : List ℕ) (from p q : ℕ) {n k : ℕ} {patch : List ℕ} →
-    n ≡ size_of w →
-    k ≡ window_bytes w →
+    (w : Window) (area d : List ℕ) (from p q : ℕ) {patch : List ℕ} →
     from + size_of w ≤ length area →
-    patch ≡ pasted d 0 (window_of w (part area from (from + n - from)) p q) →
-    take k patch ≡ window_of w (part area from (size_of w)) p q
-patch_is w area d from p q {n} {k} en ek h e =
+    patch ≡ pasted d 0 (window_of w (part area from (from + size_of w - from)) p q) →
+    take (window_bytes w) patch ≡ window_of w (part area from (size_of w)) p q
+patch_is w area d from p q h e =
     let t = part area from (size_of w) in
-    let tensor : part area from (from + n - from) ≡ t = cut_is area from n ∙ ap (part area from) en in
-    let size = window-length w t p q (part_length area from (size_of w) h) in
-    rw (e, tensor) (part-pasted d (window_of w t p q) 0 k (size ∙ sym ek) (omega arith))
+    rw (e, cut_is area from (size_of w))
+    (part-pasted d (window_of w t p q) 0 (window_bytes w) (window-length w t p q (part_length area from (size_of w) h)) (omega arith))
 
 -- ---- the places of a row
 
@@ -120,13 +110,11 @@ module _ (y : Layer) (c : Conv) {file sums : List ℕ} (r : ConvReady y c file s
 
     -- what the function `conv_place` requires at place j of row i
     pub place-ready :
-        (z i j from at : ℕ) {w : Window} {o : Outputs} {p q size patch : ℕ} →
+        (z i j from at : ℕ) {w : Window} {o : Outputs} {size patch : ℕ} →
         w ≡ window_for y.input c.frame z →
         o ≡ conv_outputs y c z →
         i < y.output.rows →
         j < y.output.columns →
-        p ≡ i * c.frame.stride →
-        q ≡ j * c.frame.stride →
         from + bytes_of y.input ≤ size →
         at + o.count ≤ size →
         12544 ≤ patch →
@@ -134,11 +122,11 @@ module _ (y : Layer) (c : Conv) {file sums : List ℕ} (r : ConvReady y c file s
         OutputsReady o (window_bytes w) file sums ×
         (from + size_of w ≤ size) ×
         (at + o.count ≤ size) ×
-        (q ≤ w.columns + w.left) ×
-        (p ≤ 131072) ×
+        (j * c.frame.stride ≤ w.columns + w.left) ×
+        (i * c.frame.stride ≤ 131072) ×
         (window_bytes w ≤ patch)
     unfolding bytes_of
-    place-ready z i j from at ew eo hi hj ep eq hf hr hp =
+    place-ready z i j from at ew eo hi hj hf hr hp =
         let sound = window-sound z in
         let taps = taps_few (window_for y.input c.frame z) sound in
         let terms : window_bytes (window_for y.input c.frame z) ≤ 12544 = mul_most (c.frame.height * c.frame.width) y.input.channels 49 256 taps g.channels-few in (
@@ -146,96 +134,88 @@ module _ (y : Layer) (c : Conv) {file sums : List ℕ} (r : ConvReady y c file s
           rw (eo, ew) (ready_any (conv_outputs y c 0) z _ r.outputs),
           rw ew hf,
           hr,
-          rw (ew, eq) (column-at j hj),
-          rw ep (row_at i hi),
+          rw ew (column-at j hj),
+          row_at i hi,
           rw ew (omega arith),
         )
 
 -- one more place of a row, of the tensor that stands in the area apart from it
 pub place_turn :
-    (w : Window) (o : Outputs) (file sums area : List ℕ) (n from at p s j : ℕ) {a q : ℕ} {area₁ area₂ : List ℕ} →
+    (w : Window) (o : Outputs) (file sums area : List ℕ) (n from at p s j : ℕ) {area₁ area₂ : List ℕ} →
     Apart from (size_of w) at (n * o.count) →
     at ≤ length area →
     j < n →
-    a ≡ at + j * o.count →
-    q ≡ j * s →
     Laid n (λ k. outputs_of o file sums (window_of w (part area from (size_of w)) p (k * s))) area at area₁ j →
-    area₂ ≡ pasted area₁ a (outputs_of o file sums (window_of w (part area₁ from (size_of w)) p q)) →
+    area₂ ≡ pasted area₁ (at + j * o.count) (outputs_of o file sums (window_of w (part area₁ from (size_of w)) p (j * s))) →
     length area₂ ≡ length area₁ →
     Laid n (λ k. outputs_of o file sums (window_of w (part area from (size_of w)) p (k * s))) area at area₂ (j + 1)
-place_turn w o file sums area n from at p s j {a} {q} {area₁} hf ha hj ea eq l e =
-    laid_more n _ area at o.count j (λ k. outputs_length o file sums _) ha hj ea l
-    (e ∙ ap₂ (λ (t : List ℕ) (x : ℕ). pasted area₁ a (outputs_of o file sums (window_of w t p x)))
-    (laid-apart n _ area at o.count from (size_of w) (λ k. outputs_length o file sums _) hf ha l) eq)
+place_turn w o file sums area n from at p s j {area₁} hf ha hj l e =
+    laid_more n _ area at o.count j (λ k. outputs_length o file sums _) ha hj refl l
+    (e ∙ ap (λ (t : List ℕ). pasted area₁ (at + j * o.count) (outputs_of o file sums (window_of w t p (j * s))))
+    (laid-apart n _ area at o.count from (size_of w) (λ k. outputs_length o file sums _) hf ha l))
 
 -- the same, of a window that stands in the area as it is, one of n windows of m bytes
 pub plain_turn :
-    (o : Outputs) (file sums area : List ℕ) (n m from at j : ℕ) {a s : ℕ} {area₁ area₂ : List ℕ} →
+    (o : Outputs) (file sums area : List ℕ) (n m from at j : ℕ) {area₁ area₂ : List ℕ} →
     Apart from (n * m) at (n * o.count) →
     at ≤ length area →
     j < n →
-    a ≡ at + j * o.count →
-    s ≡ from + j * m →
     Laid n (λ k. outputs_of o file sums (part area (from + k * m) m)) area at area₁ j →
-    area₂ ≡ pasted area₁ a (outputs_of o file sums (part area₁ s m)) →
+    area₂ ≡ pasted area₁ (at + j * o.count) (outputs_of o file sums (part area₁ (from + j * m) m)) →
     length area₂ ≡ length area₁ →
     Laid n (λ k. outputs_of o file sums (part area (from + k * m) m)) area at area₂ (j + 1)
-plain_turn o file sums area n m from at j {a} {s} {area₁} hf ha hj ea es l e =
+plain_turn o file sums area n m from at j {area₁} hf ha hj l e =
     let all = n * o.count in
-    let window : Apart s m at all =
-    apart_within (n * m) all m all hf (omega arith) (omega arith) (omega arith) (room j n m from es hj (omega arith)) in
-    laid_more n _ area at o.count j (λ k. outputs_length o file sums _) ha hj ea l
-    (e ∙ ap (λ (t : List ℕ). pasted area₁ a (outputs_of o file sums t))
-    (laid-apart n _ area at o.count s m (λ k. outputs_length o file sums _) window ha l ∙ ap (λ (x : ℕ). part area x m) es))
+    let window : Apart (from + j * m) m at all =
+    apart_within (n * m) all m all hf (omega arith) (omega arith) (omega arith) (room j n m from refl hj (omega arith)) in
+    laid_more n _ area at o.count j (λ k. outputs_length o file sums _) ha hj refl l
+    (e ∙ ap (λ (t : List ℕ). pasted area₁ (at + j * o.count) (outputs_of o file sums t))
+    (laid-apart n _ area at o.count (from + j * m) m (λ k. outputs_length o file sums _) window ha l))
 
 module _ (y : Layer) (c : Conv) (z : ℕ) (file sums area : List ℕ) (from i : ℕ) where
   -- the row whose places are gathered
   pub conv-done :
-      {w : Window} {o : Outputs} {p skip line : ℕ} {area' : List ℕ} →
+      {w : Window} {o : Outputs} {at : ℕ} {area' : List ℕ} →
       w ≡ window_for y.input c.frame z →
       o ≡ conv_outputs y c z →
-      p ≡ i * c.frame.stride →
-      line ≡ row_bytes y.output →
-      skip ≡ i * line →
-      area' ≡ pasted area (y.place + skip) (joined y.output.columns (λ k. outputs_of o file sums (window_of w (part area from (size_of w)) p (k * c.frame.stride)))) →
+      at ≡ y.place + i * row_bytes y.output →
+      area' ≡ pasted area at (joined y.output.columns (λ k. outputs_of o file sums (window_of w (part area from (size_of w)) (i * c.frame.stride) (k * c.frame.stride)))) →
       area' ≡ pasted area (y.place + i * row_bytes y.output) (conv_row y c z file sums (tensor_at area from y.input) i)
   unfolding conv_row bytes_of
-  conv-done ew eo ep el es e = e ∙ rw (es, el, ep, eo, ew)
+  conv-done ew eo ea e = e ∙ rw (ea, eo, ew)
 
   -- the row of a kernel of one cell with stride 1
   pub plain_done :
-      {o : Outputs} {skip line skip' line' : ℕ} {area' : List ℕ} →
+      {o : Outputs} {start at : ℕ} {area' : List ℕ} →
       ConvReady y c file sums →
       GoodShape y.input →
       i < y.output.rows →
       (c.frame.height ≡ 1) × (c.frame.width ≡ 1) × (c.frame.stride ≡ 1) →
       o ≡ conv_outputs y c z →
-      line ≡ row_bytes y.input →
-      skip ≡ i * line →
-      line' ≡ row_bytes y.output →
-      skip' ≡ i * line' →
-      area' ≡ pasted area (y.place + skip') (joined y.input.columns (λ k. outputs_of o file sums (part area (from + skip + k * y.input.channels) y.input.channels))) →
+      start ≡ from + i * row_bytes y.input →
+      at ≡ y.place + i * row_bytes y.output →
+      area' ≡ pasted area at (joined y.output.columns (λ k. outputs_of o file sums (part area (start + k * y.input.channels) y.input.channels))) →
       area' ≡ pasted area (y.place + i * row_bytes y.output) (conv_row y c z file sums (tensor_at area from y.input) i)
   unfolding conv_row bytes_of
-  plain_done {o} {skip} {line} {skip'} {line'} r g hi (eh, ew, es) eo el ek el' ek' e =
-      let columns = plain-columns y c r g ew es in
+  plain_done {o} {start} r g hi (eh, ew, es) eo ef ea e =
       let outputs : Outputs → List ℕ → List ℕ = λ u q. outputs_of u file sums q in
-      e ∙ ap (pasted area (y.place + skip')) (joined_same y.input.columns (λ k h. ap₂ outputs eo (place k h))) ∙ rw (ek', el', columns)
+      rw (e, ea) (ap (pasted area (y.place + i * row_bytes y.output)) (joined_same y.output.columns (λ k h. ap₂ outputs eo (place k h))))
     where
       place :
           (k : ℕ) →
-          k < y.input.columns →
-          part area (from + skip + k * y.input.channels) y.input.channels ≡
+          k < y.output.columns →
+          part area (start + k * y.input.channels) y.input.channels ≡
           window_of (window_for y.input c.frame z) (tensor_at area from y.input) (i * c.frame.stride) (k * c.frame.stride)
       place k h =
+          let column_in : k < y.input.columns = rw (plain-columns y c r g ew es) at h in
           let n = y.input.channels in
           let cell = (i * y.input.columns + k) * n in
           let input : i < y.input.rows = rw (plain_rows y c r g eh es) at hi in
           let inside : cell + n ≤ bytes_of y.input =
           omega (arith, row_in y.input i input, mul-le-mul_right {m = k + 1} {n = y.input.columns} n (omega arith)) in
-          let there : from + skip + k * n ≡ from + cell = omega (arith, ek ∙ ap (λ (l : ℕ). i * l) el) in
+          let there : start + k * n ≡ from + cell = omega (arith, ef) in
           let row : i * c.frame.stride ≡ i = rw es (omega arith) in
           let column : k * c.frame.stride ≡ k = rw es (omega arith) in
           let none : c.frame.padding ≡ 0 = omega (arith, r.ok.frame.padding-rows) in
-          rw (there, row, column, window-plain (window_for y.input c.frame z) (tensor_at area from y.input) i k eh ew none none input h)
+          rw (there, row, column, window-plain (window_for y.input c.frame z) (tensor_at area from y.input) i k eh ew none none input column_in)
           (sym (part-part area from (bytes_of y.input) cell n inside))

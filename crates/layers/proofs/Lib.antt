@@ -1,6 +1,7 @@
 -- Laws that belong to no one function.
 pub mod Convs
 pub mod Direct
+pub mod Filled
 pub mod Lengths
 pub mod Local
 pub mod Rows

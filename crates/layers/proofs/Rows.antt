@@ -1,6 +1,6 @@
 -- The rows of a tensor, and those that a layer of each kind makes.
 -- Assumes nothing.
-use mathlib.Core.Path.{◌≡◌, sym, ap, ap₂, subst, ◌∙◌}
+use mathlib.Core.Path.{◌≡◌, ap, ap₂, ◌∙◌}
 use mathlib.Core.List.{List, [], ◌∷◌}
 use Prim.Native.Nat.{ℕ, ◌+◌, ◌-◌, ◌*◌, ◌≤◌, ◌<◌}
 use native.Mathlib.Nat.{mul-le-mul_right}
@@ -13,13 +13,12 @@ use Rattle.fields.specs.declared.shape.Shape.{Shape}
 use Rattle.records.specs.declared.conv.Conv.{Conv}
 use Rattle.records.specs.declared.full.Full.{Full}
 use Rattle.records.specs.declared.add.Add.{Add}
-use Rattle.records.specs.declared.layer.Kind.{Kind}
 use Rattle.records.specs.declared.layer.Layer.{Layer}
 use Rattle.lists.specs.Lists.{pasted, joined, part}
 use Rattle.lists.proofs.Pasted.{apart_within, joined_same}
 use Rattle.layers.specs.Add.{add_byte, add_row}
-use Rattle.layers.specs.Row.{tensor_at, row_by, row_of}
-use Rattle.layers.specs.Asked.{ConvReady, KindReady, Placed, Ready}
+use Rattle.layers.specs.Row.{tensor_at, row_of}
+use Rattle.layers.specs.Asked.{ConvReady, Placed, Ready}
 use Rattle.lists.proofs.Laid.{Laid, part_at, laid_more, laid-apart}
 use Rattle.layers.proofs.Lengths.{ready_shaped, row_length}
 
@@ -31,10 +30,6 @@ rows_in s i k h = omega (arith, mul-le-mul_right {m = i + k} {n = s.rows} (row_b
 -- and so does one
 pub row_in : (s : Shape) (i : ℕ) → i < s.rows → i * row_bytes s + row_bytes s ≤ bytes_of s
 row_in s i h = omega (arith, rows_in s i 1 (omega arith))
-
--- the same, with the numbers as the code has them
-pub row_skip : (s : Shape) (i : ℕ) {w skip : ℕ} → i < s.rows → w ≡ row_bytes s → skip ≡ i * w → skip + w ≤ bytes_of s
-row_skip s i h ew es = omega (arith, es ∙ ap (λ (m : ℕ). i * m) ew, row_in s i h)
 
 -- a convolution's output has a channel for each filter
 pub filters_are : (y : Layer) (c : Conv) {file sums : List ℕ} → ConvReady y c file sums → y.output.channels ≡ c.filters
@@ -76,20 +71,6 @@ module _ (y : Layer) (z z' : ℕ) (file sums : List ℕ) (from other : ℕ) wher
       (laid_more (end - first) _ area at w (i - first) long inside (omega arith) place l
       (e ∙ cc (kept from r.first, kept other r.second, row)) same)
 
--- what a layer needs, and its rows, by its kind
-module _ (y : Layer) (kind : Kind) (e : y.kind ≡ kind) where
-  pub ready-as : {file sums : List ℕ} {room from other : ℕ} → Ready y file sums room from other → KindReady kind y file sums
-  ready-as {file} {sums} r = subst (λ k. KindReady k y file sums) e r.kind
-
-  pub row_as : (z z' : ℕ) (file sums t t' : List ℕ) (i : ℕ) → row_by kind y z z' file sums t t' i ≡ row_of y z z' file sums t t' i
-  row_as z z' file sums t t' i = ap (λ k. row_by k y z z' file sums t t' i) (sym e)
-
--- a full layer has one row
-pub full_place : (y : Layer) (f : Full) (i : ℕ) → y.output ≡ full_output f → i < y.output.rows → y.place ≡ y.place + i * row_bytes y.output
-full_place y f i e h =
-    let none : i ≡ 0 = omega (arith, ap (λ (s : Shape). s.rows) e) in
-    omega (arith, ap (λ (k : ℕ). k * row_bytes y.output) none)
-
 -- a full layer's output has a byte for each of its outputs
 pub full_bytes : (s : Shape) (f : Full) → s ≡ full_output f → bytes_of s ≡ f.outputs
 unfolding bytes_of
@@ -97,18 +78,18 @@ full_bytes s f e = ap bytes_of e ∙ omega arith
 
 -- row i of an add of two tensors of `size` bytes that stand in one area, laid from its place
 pub add_done :
-    (a : Add) (z z' : ℕ) (area : List ℕ) (from other place size i w : ℕ) {w' skip : ℕ} {area' : List ℕ} →
-    w' ≡ w →
-    skip ≡ i * w' →
-    skip + w' ≤ size →
-    area' ≡ pasted area (place + skip) (joined w' (λ k. add_byte a z z' (get_or area (from + skip + k) 0) (get_or area (other + skip + k) 0) ∷ [])) →
+    (a : Add) (z z' : ℕ) (area : List ℕ) (from other place size i w : ℕ) {first second at : ℕ} {area' : List ℕ} →
+    first ≡ from + i * w →
+    second ≡ other + i * w →
+    at ≡ place + i * w →
+    i * w + w ≤ size →
+    area' ≡ pasted area at (joined w (λ k. add_byte a z z' (get_or area (first + k) 0) (get_or area (second + k) 0) ∷ [])) →
     area' ≡ pasted area (place + i * w) (add_row a z z' w (part area from size) (part area other size) i)
 unfolding add_row
-add_done a z z' area from other place size i w {w'} {skip} ew es h e =
-    e ∙ ap (pasted area (place + skip)) (joined_same w' (λ k g. ap₂ (λ (q r : ℕ). add_byte a z z' q r ∷ []) (byte from k g) (byte other k g))) ∙
-    rw (es, ew)
+add_done a z z' area from other place size i w ef es ea h e =
+    rw (e, ea) (ap (pasted area (place + i * w)) (joined_same w (λ k g. ap₂ (λ (q r : ℕ). add_byte a z z' q r ∷ []) (byte from k ef g) (byte other k es g))))
   where
-    byte : (at k : ℕ) → k < w' → get_or area (at + skip + k) 0 ≡ get_or (part area at size) (i * w' + k) 0
-    byte at k g =
-        let there : at + skip + k ≡ at + (i * w' + k) = omega arith in
-        rw (part_at area 0 at size (i * w' + k) (omega arith), there)
+    byte : (from k : ℕ) {at : ℕ} → at ≡ from + i * w → k < w → get_or area (at + k) 0 ≡ get_or (part area from size) (i * w + k) 0
+    byte from k e g =
+        let there : from + (i * w + k) ≡ from + i * w + k = omega arith in
+        rw (part_at area 0 from size (i * w + k) (omega arith), there, e)

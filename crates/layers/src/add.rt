@@ -7,9 +7,9 @@ ghost use Rattle.layers.specs.Add.{add_byte, add_row};
 ghost use Rattle.layers.specs.Asked.{AddReady, Placed};
 ghost use Rattle.layers.specs.Row.{tensor_at};
 
+use crate::start::row_start;
 use numbers::addition::{offset_of, summed_of};
 use numbers::finish::finish;
-use numbers::small::times;
 use records::add::Add;
 use records::layer::Layer;
 
@@ -45,16 +45,10 @@ pub fn add_row(
     requires row { i < y.output.rows }
     ensures { area.new ≡ pasted area.old (y.place + i * row_bytes y.output) (add_row a z zr (row_bytes y.output) (tensor_at area.old from y.input) (tensor_at area.old other y.input) i) }
 {
-    let output = y.output;
-    let w = times(output.columns, output.channels);
-    let skip = times(i, w);
-    let q = from + skip;
-    let r = other + skip;
-    let at = y.place + skip;
-    let mut k = 0;
-    while k < w {
-        let b = add_byte(a, z, zr, area[q + k], area[r + k]);
-        area[at + k] = b;
-        k += 1;
+    let first = row_start(from, y.input, i);
+    let second = row_start(other, y.input, i);
+    let at = row_start(y.place, y.output, i);
+    for k in 0..y.output.columns * y.output.channels {
+        area[at + k] = add_byte(a, z, zr, area[first + k], area[second + k]);
     }
 }

@@ -1,5 +1,6 @@
 // One row of a convolution.
 ghost use Rattle.std.specs.Prelude.{◌≡◌, ◌+◌, ◌*◌, ◌≤◌, ◌<◌, length};
+ghost use Rattle.numbers.specs.Limits.{file_most};
 ghost use Rattle.numbers.specs.Asked.{window_most};
 ghost use Rattle.fields.specs.Shape.{row_bytes};
 ghost use Rattle.lists.specs.Lists.{pasted, part};
@@ -7,11 +8,11 @@ ghost use Rattle.windows.specs.Asked.{SmallWindow, size_of, window_bytes};
 ghost use Rattle.windows.specs.Window.{window_of};
 ghost use Rattle.layers.specs.Asked.{OutputsReady, ConvRowReady};
 ghost use Rattle.layers.specs.Outputs.{outputs_of};
-ghost use Rattle.layers.specs.Conv.{window_for, conv_row};
+ghost use Rattle.layers.specs.Conv.{window_for, conv_outputs, conv_row};
 ghost use Rattle.layers.specs.Row.{tensor_at};
 
 use crate::outputs::{Outputs, outputs_for, put_outputs, put_within};
-use numbers::small::times;
+use crate::start::row_start;
 use records::conv::Conv;
 use records::layer::Layer;
 use windows::window::{Window, gather};
@@ -20,18 +21,24 @@ use windows::window::{Window, gather};
 fn window_for(y: Layer, c: Conv, z: u8) -> Window
     ensures { result ≡ window_for y.input c.frame z }
 {
-    let input = y.input;
-    let f = c.frame;
     Window {
-        rows: input.rows,
-        columns: input.columns,
-        channels: input.channels,
+        rows: y.input.rows,
+        columns: y.input.columns,
+        channels: y.input.channels,
         zero: z,
-        height: f.height as usize,
-        width: f.width as usize,
-        top: f.padding as usize,
-        left: f.padding as usize,
+        height: c.frame.height as usize,
+        width: c.frame.width as usize,
+        top: c.frame.padding as usize,
+        left: c.frame.padding as usize,
     }
+}
+
+// What the filters need.
+fn conv_outputs(y: Layer, c: Conv, z: u8) -> Outputs
+    requires { y.start ≤ file_most }
+    ensures { result ≡ conv_outputs y c z }
+{
+    outputs_for(y, c.filters as usize, c.weighing, z)
 }
 
 // The outputs at the window from row p, column q of the padded tensor that stands in area from `from`, to area from at.
@@ -57,9 +64,9 @@ fn conv_place(
     requires patch_room { window_bytes w ≤ length patch.old }
     ensures { area.new ≡ pasted area.old at (outputs_of o file.now sums.now (window_of w (part area.old from (size_of w)) p q)) }
 {
-    let n = times(times(w.height, w.width), w.channels);
-    let end = from + times(times(w.rows, w.columns), w.channels);
-    gather(w, &area[from..end], patch, p, q);
+    let n = w.height * w.width * w.channels;
+    let size = w.rows * w.columns * w.channels;
+    gather(w, &area[from..from + size], patch, p, q);
     put_outputs(o, file, sums, &patch[..n], area, at);
 }
 
@@ -80,21 +87,22 @@ fn gathered_row(
     ensures { area.new ≡ pasted area.old (y.place + i * row_bytes y.output) (conv_row y c z file.now sums.now (tensor_at area.old from y.input) i) }
 {
     let w = window_for(y, c, z);
-    let weighing = c.weighing;
-    let o = outputs_for(y, c.filters as usize, weighing, z);
-    let output = y.output;
-    let across = output.columns;
-    let filters = o.count;
+    let o = conv_outputs(y, c, z);
     let stride = c.frame.stride as usize;
-    let p = times(i, stride);
-    let mut at = y.place + times(i, times(across, filters));
-    let mut q = 0;
-    let mut j = 0;
-    while j < across {
-        conv_place(w, o, file, sums, area, patch, from, at, p, q);
-        at += filters;
-        q += stride;
-        j += 1;
+    let at = row_start(y.place, y.output, i);
+    for j in 0..y.output.columns {
+        conv_place(
+            w,
+            o,
+            file,
+            sums,
+            area,
+            patch,
+            from,
+            at + j * o.count,
+            i * stride,
+            j * stride,
+        );
     }
 }
 
@@ -113,20 +121,12 @@ fn plain_row(
     requires plain { (c.frame.height ≡ 1) × (c.frame.width ≡ 1) × (c.frame.stride ≡ 1) }
     ensures { area.new ≡ pasted area.old (y.place + i * row_bytes y.output) (conv_row y c z file.now sums.now (tensor_at area.old from y.input) i) }
 {
-    let weighing = c.weighing;
-    let o = outputs_for(y, c.filters as usize, weighing, z);
-    let input = y.input;
-    let across = input.columns;
-    let n = input.channels;
-    let filters = o.count;
-    let mut start = from + times(i, times(across, n));
-    let mut at = y.place + times(i, times(across, filters));
-    let mut j = 0;
-    while j < across {
-        put_within(o, file, sums, area, start, n, at);
-        start += n;
-        at += filters;
-        j += 1;
+    let o = conv_outputs(y, c, z);
+    let n = y.input.channels;
+    let start = row_start(from, y.input, i);
+    let at = row_start(y.place, y.output, i);
+    for j in 0..y.output.columns {
+        put_within(o, file, sums, area, start + j * n, n, at + j * o.count);
     }
 }
 
@@ -146,13 +146,9 @@ pub fn conv_row(
     requires patch_room { window_most ≤ length patch.old }
     ensures { area.new ≡ pasted area.old (y.place + i * row_bytes y.output) (conv_row y c z file.now sums.now (tensor_at area.old from y.input) i) }
 {
-    if c.frame.height == 1 {
-        if c.frame.width == 1 {
-            if c.frame.stride == 1 {
-                plain_row(y, c, z, file, sums, area, from, i);
-                return;
-            }
-        }
+    if c.frame.height == 1 && c.frame.width == 1 && c.frame.stride == 1 {
+        plain_row(y, c, z, file, sums, area, from, i);
+    } else {
+        gathered_row(y, c, z, file, sums, area, patch, from, i);
     }
-    gathered_row(y, c, z, file, sums, area, patch, from, i);
 }

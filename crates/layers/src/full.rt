@@ -16,8 +16,6 @@ pub fn full_row(y: Layer, f: Full, z: u8, file: &[u8], sums: &[u32], area: &mut 
     requires placed { Placed y (length area.old) from }
     ensures { area.new ≡ pasted area.old y.place (full_row y f z file.now sums.now (tensor_at area.old from y.input)) }
 {
-    let input = y.input;
-    let weighing = f.weighing;
-    let o = outputs_for(y, f.outputs as usize, weighing, z);
-    put_within(o, file, sums, area, from, bytes_of(input), y.place);
+    let o = outputs_for(y, f.outputs as usize, f.weighing, z);
+    put_within(o, file, sums, area, from, bytes_of(y.input), y.place);
 }

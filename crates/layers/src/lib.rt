@@ -6,4 +6,5 @@ pub mod conv;
 pub mod full;
 pub mod outputs;
 pub mod row;
+pub mod start;
 pub mod sums;

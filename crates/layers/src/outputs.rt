@@ -71,10 +71,9 @@ fn output_at(o: Outputs, file: &[u8], sums: &[u32], q: &[u8], bytes: u32, f: usi
     ensures { result ≡ output_of o file.now sums.now q.now f }
 {
     let n = q.len();
-    let a = o.weights + f * n;
-    let e = a + n;
+    let first = o.weights + f * n;
     let bias = signed_of(u32_at(file, o.biases + 4 * f));
-    output(o, q, &file[a..e], bytes, bias, sums[o.sums + f])
+    output(o, q, &file[first..first + n], bytes, bias, sums[o.sums + f])
 }
 
 // The outputs at the window q, to area from at.
@@ -84,11 +83,8 @@ pub fn put_outputs(o: Outputs, file: &[u8], sums: &[u32], q: &[u8], area: &mut [
     ensures { area.new ≡ pasted area.old at (outputs_of o file.now sums.now q.now) }
 {
     let bytes = byte_total(q);
-    let count = o.count;
-    let mut f = 0;
-    while f < count {
-        area[at + f] = output_at(o, file, sums, q, bytes, f);
-        f += 1;
+    for (f, byte) in area[at..at + o.count].iter_mut().enumerate() {
+        *byte = output_at(o, file, sums, q, bytes, f);
     }
 }
 
@@ -108,13 +104,11 @@ pub fn put_within(
     requires room { at + o.count ≤ length area.old }
     ensures { area.new ≡ pasted area.old at (outputs_of o file.now sums.now (part area.old from n)) }
 {
-    let end = from + n;
-    let bytes = byte_total(&area[from..end]);
-    let count = o.count;
-    let mut f = 0;
-    while f < count {
-        let b = output_at(o, file, sums, &area[from..end], bytes, f);
-        area[at + f] = b;
-        f += 1;
+    if from + n <= at {
+        let (before, rest) = area.split_at_mut(at);
+        put_outputs(o, file, sums, &before[from..from + n], rest, 0);
+    } else {
+        let (before, rest) = area.split_at_mut(from);
+        put_outputs(o, file, sums, &rest[..n], before, at);
     }
 }

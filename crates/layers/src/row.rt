@@ -30,8 +30,7 @@ pub fn put_row(
     requires patch_room { window_most ≤ length patch.old }
     ensures { area.new ≡ pasted area.old (y.place + i * row_bytes y.output) (row_of y z zr file.now sums.now (tensor_at area.old from y.input) (tensor_at area.old other y.input) i) }
 {
-    let kind = y.kind;
-    match kind {
+    match y.kind {
         Kind::Conv(c) => conv_row(y, c, z, file, sums, area, patch, from, i),
         Kind::Full(f) => full_row(y, f, z, file, sums, area, from),
         Kind::Add(a) => add_row(y, a, z, zr, area, from, other, i),
@@ -58,9 +57,7 @@ pub fn put_rows(
     requires patch_room { window_most ≤ length patch.old }
     ensures { area.new ≡ pasted area.old (y.place + first * row_bytes y.output) (joined (end - first) (λ k. row_of y z zr file.now sums.now (tensor_at area.old from y.input) (tensor_at area.old other y.input) (first + k))) }
 {
-    let mut i = first;
-    while i < end {
+    for i in first..end {
         put_row(y, z, zr, file, sums, area, patch, from, other, i);
-        i += 1;
     }
 }

@@ -19,15 +19,10 @@ pub fn put_sums(y: Layer, file: &[u8], sums: &mut [u32])
     ensures { sums.new ≡ pasted sums.old y.sums (layer_sums y file.now) }
 {
     let n = terms_of(y);
-    let at = y.sums;
-    let kind = y.kind;
-    let count = sums_of(kind);
-    let mut a = weights_at(y);
-    let mut f = 0;
-    while f < count {
-        let e = a + n;
-        sums[at + f] = byte_total(&file[a..e]);
-        a = e;
-        f += 1;
+    let weights = weights_at(y);
+    let count = sums_of(y.kind);
+    for (f, sum) in sums[y.sums..y.sums + count].iter_mut().enumerate() {
+        let first = weights + f * n;
+        *sum = byte_total(&file[first..first + n]);
     }
 }

@@ -3,11 +3,10 @@
 use Prim.Native.Nat.{ℕ, zero, suc, ◌+◌, ◌-◌, ◌*◌, ◌≤◌, ◌<◌}
 use mathlib.Core.Path.{◌≡◌, refl, sym, ◌∙◌, ap}
 use mathlib.Core.Logic.{inl, inr}
-use mathlib.Core.List.{List, ◌++◌, append_assoc}
+use mathlib.Core.List.{List, ◌++◌}
 use native.Mathlib.Nat.{zero-add}
 use native.Mathlib.Omega.{arith}
-use lib.ListN.{length, take, drop, length-take, take-append-drop}
-use lib.Seq.{drop-append-le, take-take}
+use lib.ListN.{length, take, drop}
 use Rattle.fields.specs.Shape.{bytes_of, row_bytes}
 use Rattle.network.specs.Network.{layer_of, tensor_of, place_of, zero_of}
 use Rattle.network.specs.Taken.{Taken}
@@ -17,6 +16,7 @@ use Rattle.lists.specs.Lists.{pasted, joined, part}
 use Rattle.lists.specs.Asked.{Apart}
 use Rattle.lists.proofs.Pasted.{apart_within, part_apart, part-part, pasted_length, joined_length}
 use Rattle.layers.specs.Row.{row_of, tensor_at}
+use Rattle.layers.proofs.Filled.{pasted_front}
 use Rattle.layers.proofs.Lengths.{row_length}
 use Rattle.layers.proofs.Rows.{rows_in}
 use Rattle.bands.specs.declared.band.Band.{Band}
@@ -26,20 +26,6 @@ use Rattle.updates.specs.Recompute.{tensor_in, row_from, redone, grown_band_of, 
 use Rattle.updates.specs.Asked.{BandsWithin}
 use Rattle.updates.proofs.Fairs.{Fits, grown-fair}
 use Rattle.updates.proofs.Ready.{other_shape_lem, layer-shaped, input-before, other-before}
-
--- what is pasted into the front of a list, said of the whole list
-front_pasted :
-    (d : List ℕ) (k at : ℕ) (s : List ℕ) →
-    at + length s ≤ k →
-    k ≤ length d →
-    pasted (take k d) at s ++ drop k d ≡ pasted d at s
-unfolding pasted
-front_pasted d k at s h g =
-    let m = at + length s in
-    let long : length (take k d) ≡ k = rw length-take (omega arith) in
-    let rest : drop m (take k d) ++ drop k d ≡ drop m d =
-    sym (drop-append-le m (take k d) (drop k d) (omega (arith, long))) ∙ ap (drop m) (take-append-drop k d) in
-    rw (append_assoc, rest, take-take at k d (omega arith))
 
 module _ (file : List ℕ) (n : Network) (sums : List ℕ) (t : Taken file n) where
   -- the rows of a band of layer m
@@ -102,7 +88,7 @@ module _ (file : List ℕ) (n : Network) (sums : List ℕ) (t : Taken file n) wh
         let first = tensor m (omega (arith, input-before file n t m h, y.place_end)) y.input in
         let second = tensor (link_of n m).other (omega (arith, other-before file n t m h, y.place_end)) (sym o.1) in
         rw (first, second)
-        (front_pasted area n.area at rows (omega (arith, rows_end, tensors-in file n t (suc m) h)) room)
+        (pasted_front area n.area at rows (omega (arith, rows_end, tensors-in file n t (suc m) h)))
 
   module _ (s : State) (area : List ℕ) (f : BandsWithin n s) (room : n.area ≤ length area) where
     grown-fits : (m : ℕ) → m < n.count → Fits (tensor_of n (suc m)).rows (grown_band_of n s (suc m))

@@ -36,12 +36,6 @@ module _ {file : List ℕ} {n : Network} {sums : List ℕ} (area : List ℕ) (m 
       let t = can.taken in
       (omega (arith, t.count-few), (input-good file n t m h).rows_few, (t.shapes (suc m) h).rows_few)
 
-  -- both inputs are tensors of the network
-  pub inputs-there : {link : Link} → link ≡ link_of n m → (m ≤ 16) × (link.other ≤ 16)
-  inputs-there e =
-      let first : m ≤ 16 = omega (arith, can.taken.count-few) in
-      (first, omega (arith, first, (link-ok file n can.taken m h).other-before, ap (λ (x : Link). x.other) e))
-
   -- what the growth's code needs
   pub grow-needs :
       (s : State) {link : Link} →
@@ -62,26 +56,17 @@ module _ {file : List ℕ} {n : Network} {sums : List ℕ} (area : List ℕ) (m 
   pub front-size : length (take n.area area) ≡ n.area
   front-size = rw length-take (omega (arith, can.area_in))
 
-  -- what the count's code needs
-  pub row-needs : {y : Layer} → y ≡ layer_of n m → (y.output.columns ≤ 131072) × (y.output.channels ≤ 16384)
-  row-needs e =
-      let g = can.taken.shapes (suc m) h in
-      rw e (omega (arith, g.columns-few), omega (arith, g.channels-few))
-
-  pub count-needs :
-      {y : Layer} (b : Band) {w : ℕ} →
-      y ≡ layer_of n m →
-      Fits y.output.rows b →
-      w ≡ y.output.columns * y.output.channels →
-      (b.end ≤ 131072) × (w ≤ 16384)
+  -- rows of the layer's tensor have few bytes
+  pub few-rows : {y : Layer} (k : ℕ) → y ≡ layer_of n m → k ≤ y.output.rows → k * row_bytes y.output ≤ 16384
   unfolding bytes_of
-  count-needs b {w = w} ey f ew =
+  few-rows k ey e =
       let g = can.taken.shapes (suc m) h in
       let x = (layer_of n m).output in
-      let wide : w ≡ row_bytes x = ew ∙ ap (λ (l : Layer). row_bytes l.output) ey in (
-        omega (arith, f, g.rows_few, ap (λ (l : Layer). l.output.rows) ey),
-        omega (arith, wide, g.bytes_few, mul-le-mul_right {m = 1} {n = x.rows} (row_bytes x) g.rows-some),
-      )
+      let within : k ≤ x.rows = rw ey at e in
+      rw ey (omega (arith, g.bytes_few, mul-le-mul_right {m = k} {n = x.rows} (row_bytes x) within))
+
+  pub few-row : {y : Layer} → y ≡ layer_of n m → row_bytes y.output ≤ 16384
+  few-row ey = omega (arith, few-rows 1 ey (rw ey (can.taken.shapes (suc m) h).rows-some))
 
   -- the rows' code has its layer
   pub ready-now :
@@ -114,14 +99,12 @@ module _ {file : List ℕ} {n : Network} {sums : List ℕ} (area : List ℕ) (m 
 
     -- the bytes of the band
     pub count-now :
-        {y : Layer} {k w : ℕ} →
+        {y : Layer} →
         y ≡ layer_of n m →
-        w ≡ y.output.columns * y.output.channels →
-        k ≡ (b.end - b.first) * w →
-        k ≡ bytes_in (band_of state (suc m)) (tensor_of n (suc m)).rows (row_bytes (tensor_of n (suc m)))
-    count-now ey ew ek =
+        (b.end - b.first) * row_bytes y.output ≡ bytes_in (band_of state (suc m)) (tensor_of n (suc m)).rows (row_bytes (tensor_of n (suc m)))
+    count-now ey =
         let inside = (band-fits refl).1 in
-        ek ∙ ap (λ (x : ℕ). (b.end - b.first) * x) (ew ∙ ap (λ (x : Layer). row_bytes x.output) ey) ∙
+        ap (λ (x : Layer). (b.end - b.first) * row_bytes x.output) ey ∙
         sym (bytes_in_lem b (tensor_of n (suc m)).rows (row_bytes (tensor_of n (suc m))) inside) ∙
         ap (λ (x : Band). bytes_in x (tensor_of n (suc m)).rows (row_bytes (tensor_of n (suc m)))) band-now
 

@@ -13,10 +13,7 @@ pub fn fill_sums(file: &[u8], n: Network, sums: &mut [u32])
     requires store_in_bounds { n.store ≤ length sums.old }
     ensures { sums.new ≡ pasted sums.old 0 (network_sums n file.now) }
 {
-    let count = n.count;
-    let mut m: usize = 0;
-    while m < count {
+    for m in 0..n.count {
         put_sums(layer(n, m), file, sums);
-        m += 1;
     }
 }

@@ -15,7 +15,6 @@ use checks::tensors::link_of;
 use layers::row::put_rows;
 use network::net::{Network, layer, place, zero_point};
 use numbers::limits::WINDOW_MOST;
-use numbers::small::times;
 
 // What one layer's step answers: the bands grown so far, and the bytes recomputed.
 #[derive(Clone, Copy)]
@@ -43,30 +42,26 @@ fn recompute_layer(
 {
     let y = layer(n, m);
     let link = link_of(n, m);
-    let other = link.other;
     let state = grow_one(s, link, m);
-    let b = band_of(state, m + 1);
-    let first = b.first as usize;
-    let end = b.end as usize;
-    let size = n.area;
+    let band = band_of(state, m + 1);
+    let first = band.first as usize;
+    let end = band.end as usize;
     put_rows(
         y,
         zero_point(n, m),
-        zero_point(n, other),
+        zero_point(n, link.other),
         file,
         sums,
-        &mut area[..size],
+        &mut area[..n.area],
         patch,
         place(n, m),
-        place(n, other),
+        place(n, link.other),
         first,
         end,
     );
-    let output = y.output;
-    let bytes = times(end - first, times(output.columns, output.channels));
     Step {
         state,
-        count: bytes as u32,
+        count: ((end - first) * (y.output.columns * y.output.channels)) as u32,
     }
 }
 
@@ -79,14 +74,11 @@ pub fn recompute(file: &[u8], n: Network, sums: &[u32], area: &mut [u8], s: Stat
 {
     let mut patch = [0u8; WINDOW_MOST];
     let mut state = s;
-    let mut count: u32 = 0;
-    let layers = n.count;
-    let mut m: usize = 0;
-    while m < layers {
+    let mut count = 0;
+    for m in 0..n.count {
         let step = recompute_layer(file, n, sums, area, &mut patch, state, m);
         state = step.state;
         count += step.count;
-        m += 1;
     }
     count
 }

@@ -1,6 +1,6 @@
 -- `layers::add::add_row` meets its contract. The loop's invariant: k bytes of the row are laid from its place, apart from both tensors.
 use mathlib.Core.List.{[], ◌∷◌}
-use Prim.Native.Nat.{◌+◌, ◌-◌}
+use Prim.Native.Nat.{◌+◌}
 use lib.ListN.{get_or}
 use Rattle.layers.specs.Add.{add_byte}
 use Rattle.lists.proofs.Laid.{Laid}
@@ -8,7 +8,4 @@ use Rattle.layers.proofs.add.add_row.Given as goal
 
 abbrev pub invariant-loop-k : goal.invariant-loop-k
 invariant-loop-k l =
-    Laid l.w (λ j. add_byte l.a l.z l.zr (get_or l.initial.area (l.q + j) 0) (get_or l.initial.area (l.r + j) 0) ∷ []) l.initial.area l.at l.area l.k
-
-abbrev pub decreases-loop-k : goal.decreases-loop-k
-decreases-loop-k l = l.w - l.k
+    Laid l.k-end (λ j. add_byte l.a l.z l.zr (get_or l.initial.area (l.first + j) 0) (get_or l.initial.area (l.second + j) 0) ∷ []) l.initial.area l.at l.area l.k

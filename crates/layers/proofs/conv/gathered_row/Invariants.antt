@@ -1,6 +1,6 @@
 -- `layers::conv::gathered_row` meets its contract. The loop's invariant: j places of the row are laid from its place, apart from the tensor.
 use mathlib.Core.Path.{◌≡◌}
-use Prim.Native.Nat.{◌+◌, ◌*◌, ◌-◌}
+use Prim.Native.Nat.{◌*◌}
 use lib.ListN.{length}
 use Rattle.lists.specs.Lists.{part}
 use Rattle.windows.specs.Asked.{size_of}
@@ -10,11 +10,7 @@ use Rattle.lists.proofs.Laid.{Laid}
 use Rattle.layers.proofs.conv.gathered_row.Given as goal
 
 abbrev pub invariant-loop-j : goal.invariant-loop-j
-invariant-loop-j l =
-    (l.at ≡ l.initial.at + l.j * l.filters) ×
-    (l.q ≡ l.j * l.stride) ×
-    Laid l.across (λ k. outputs_of l.o l.file l.sums (window_of l.w (part l.initial.area l.from (size_of l.w)) l.p (k * l.stride))) l.initial.area l.initial.at l.area l.j ×
-    (length l.patch ≡ length l.initial.patch)
-
-abbrev pub decreases-loop-j : goal.decreases-loop-j
-decreases-loop-j l = l.across - l.j
+invariant-loop-j l = record {
+  laid : Laid l.j-end (λ k. outputs_of l.o l.file l.sums (window_of l.w (part l.initial.area l.from (size_of l.w)) (l.i * l.stride) (k * l.stride))) l.initial.area l.at l.area l.j;
+  patch : length l.patch ≡ length l.initial.patch;
+}

@@ -1,14 +1,11 @@
 use native.Mathlib.Omega.{arith}
 use Rattle.network.proofs.Bounds.{terms-few}
 use Rattle.checks.proofs.Rows.{input-good}
-use Rattle.updates.proofs.Fills.{fill_none, fill-turn, fill_done, weights-in}
+use Rattle.updates.proofs.Fills.{fill_none, fill-turn, weights-in}
 use Rattle.updates.proofs.fill.fill_sums.Goals as goal
 
 pub loop-m-init : goal.loop-m-init
 loop-m-init c = fill_none _ _ _
-
-pub layer-requires : goal.layer-requires
-layer-requires c = omega (arith, c.requires.taken.count-few)
 
 pub put_sums-requires : goal.put_sums-requires
 put_sums-requires c =
@@ -25,19 +22,7 @@ put_sums-requires c =
       room = omega (arith, (t.layers m h).sums-end, c.requires.store_in_bounds, c.loop-m.invariant.same);
     })
 
-pub overflow_add-m : goal.overflow_add-m
-overflow_add-m c = omega (arith, c.requires.taken.count-few)
-
-pub loop-m-smaller : goal.loop-m-smaller
-loop-m-smaller c = omega arith
-
 pub loop-m-preserved : goal.loop-m-preserved
 loop-m-preserved c =
     fill-turn c.args.n c.args.file.now c.args.sums.now c.loop-m.m c.layer.result c.requires.taken c.loop-m-test.true c.loop-m.invariant c.layer.ensures
     c.put_sums.ensures c.put_sums.auto.sums
-
-pub shape_of-sums : goal.shape_of-sums
-shape_of-sums c = c.loop-m.invariant.same
-
-pub returns : goal.returns
-returns c = fill_done _ _ _ _ c.loop-m.invariant (omega arith)

@@ -1,15 +1,12 @@
 use Prim.Native.Nat.{ℕ}
-use mathlib.Core.Path.{sym, ◌∙◌}
+use mathlib.Core.Path.{◌∙◌}
 use native.Mathlib.Omega.{arith}
 use lib.ListN.{length-replicate}
-use Rattle.updates.proofs.Turns.{turns-none, step-needs, turn-count, turns_more, turns-done}
+use Rattle.updates.proofs.Turns.{turns-none, step-needs, turn-count, turns_more}
 use Rattle.updates.proofs.recompute.recompute.Goals as goal
 
 pub loop-m-init : goal.loop-m-init
 loop-m-init c = (turns-none _ _, length-replicate {A = ℕ} 12544 0)
-
-pub slice_bounds-recompute_layer-end : goal.slice_bounds-recompute_layer-end
-slice_bounds-recompute_layer-end c = sym c.loop-m.invariant.1
 
 pub recompute_layer-step-requires : goal.recompute_layer-step-requires
 recompute_layer-step-requires c =
@@ -21,23 +18,9 @@ pub overflow_add-count : goal.overflow_add-count
 overflow_add-count c =
     omega (arith, turn-count c.args.s c.args.area.now c.loop-m.m c.loop-m.invariant.0 c.recompute_layer-step.ensures.state_value c.recompute_layer-step.ensures.count_value c.requires.can_recompute (omega (arith, c.requires.can_recompute.taken.count-some)))
 
-pub overflow_add-m : goal.overflow_add-m
-overflow_add-m c = omega (arith, c.requires.can_recompute.taken.count-few)
-
-pub loop-m-smaller : goal.loop-m-smaller
-loop-m-smaller c = omega (arith, c.requires.can_recompute.taken.count-some)
-
 pub loop-m-preserved : goal.loop-m-preserved
 loop-m-preserved c =
     let v = c.loop-m.invariant in (
       turns_more c.args.s c.args.area.now c.loop-m.m v.0 c.recompute_layer-step.ensures.state_value c.recompute_layer-step.ensures.count_value (omega (arith, c.requires.can_recompute.taken.count-some)) c.recompute_layer-step.ensures.area_after c.recompute_layer-step.auto.area,
       c.recompute_layer-step.auto.patch ∙ v.1,
     )
-
-pub shape_of-area : goal.shape_of-area
-shape_of-area c = c.loop-m.invariant.0.same
-
-pub returns : goal.returns
-returns c =
-    let done = turns-done c.args.s c.args.area.now c.loop-m.invariant.0 (omega arith) in
-    record { value = done.0; area_after = done.1 }
