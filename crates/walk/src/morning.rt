@@ -61,7 +61,7 @@ impl Joiner<'_> {
         let out = &mut buffer[..length];
         let outcome = clew::read(self.file, self.sums, self.area, state, out);
         let state = taken(Call::Read, outcome)?.state;
-        print::answer(self.to, Call::Read, 0);
+        print::taken(self.to, Call::Read);
         print::bytes(self.to, out);
         Ok(state)
     }
@@ -72,7 +72,7 @@ impl Joiner<'_> {
     // The state after a call, which is said to be taken.
     fn accept(&self, call: Call, outcome: Outcome) -> Result<State, Refused> {
         let state = taken(call, outcome)?.state;
-        print::answer(self.to, call, 0);
+        print::taken(self.to, call);
         Ok(state)
     }
 
@@ -89,7 +89,7 @@ impl Joiner<'_> {
         let changed = self.change_rows(state, rows);
         let state = self.accept(Call::ChangeRows, changed)?;
         if let Err(refused) = self.read(state) {
-            print::answer(self.to, refused.call, refused.why.number());
+            print::answer(self.to, refused);
         }
         Ok(())
     }

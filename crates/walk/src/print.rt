@@ -43,8 +43,15 @@ impl fmt::Display for Call {
     }
 }
 
-// A call and the number that it answered.
-pub fn answer(to: &Output, call: Call, number: u8) {
+// A call that was taken.
+pub fn taken(to: &Output, call: Call) {
+    let _ = println!(to.out; "{call}: number 0");
+}
+
+// A call and the number that it refused by.
+pub fn answer(to: &Output, refused: Refused) {
+    let Refused { call, why } = refused;
+    let number = why.number();
     let _ = println!(to.out; "{call}: number {number}");
 }
 
