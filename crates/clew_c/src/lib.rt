@@ -12,6 +12,7 @@ mod flat;
 use flat::{numbers_of, state_of};
 
 // Sizes: the picture's bytes, the stored sums, the area's bytes and a reading's bytes; all 0 where the file is refused.
+#[tactic(auto, using(clew::proofs::Sized::sizes_small))]
 pub fn clew_sizes(net: &[u8], sizes: &mut [u32; 4]) -> u8
     ensures { (result, sizes.new) ≡ sizes_told (sizes_of net.now) }
 {
@@ -30,8 +31,7 @@ pub fn clew_load(net: &[u8], sums: &mut [u32], area: &[u8], state: &mut [u16; 34
     ensures { (result, sums.new, state.new) ≡ told (load_of net.now sums.old area.now) }
 {
     let o = clew::load(net, sums, area);
-    let s = o.state;
-    *state = numbers_of(s);
+    *state = numbers_of(o.state);
     o.number
 }
 
@@ -48,8 +48,7 @@ pub fn clew_change_rows(
     ensures { (result, area.new, state.new) ≡ told (change_of net.now sums.now area.old (state_of state.old) first count rows.now) }
 {
     let o = clew::change_rows(net, sums, area, state_of(state), first, count, rows);
-    let s = o.state;
-    *state = numbers_of(s);
+    *state = numbers_of(o.state);
     o.number
 }
 
@@ -65,8 +64,7 @@ pub fn clew_replace_layer(
     ensures { (result, net.new, sums.new, state.new) ≡ replace_told (replace_of net.old sums.old area.now (state_of state.old) layer new.now) }
 {
     let o = clew::replace_layer(net, sums, area, state_of(state), layer, new);
-    let s = o.state;
-    *state = numbers_of(s);
+    *state = numbers_of(o.state);
     o.number
 }
 
@@ -81,8 +79,7 @@ pub fn clew_update(
     ensures { (result, area.new, state.new, count.new) ≡ update_told (update_of net.now sums.now area.old (state_of state.old)) }
 {
     let o = clew::update(net, sums, area, state_of(state));
-    let s = o.state;
-    *state = numbers_of(s);
+    *state = numbers_of(o.state);
     *count = o.count;
     o.number
 }
@@ -91,6 +88,5 @@ pub fn clew_update(
 pub fn clew_read(net: &[u8], sums: &[u32], area: &[u8], state: &[u16; 34], out: &mut [u8]) -> u8
     ensures { (result, out.new) ≡ read_told (read_of net.now sums.now area.now (state_of state.now) out.old) }
 {
-    let o = clew::read(net, sums, area, state_of(state), out);
-    o.number
+    clew::read(net, sums, area, state_of(state), out).number
 }

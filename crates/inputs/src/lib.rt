@@ -14,6 +14,7 @@ pub fn fill<R: Read>(input: &mut R, buf: &mut [u8]) -> io::Result<usize>
     ensures bytes { IfOk result (λ n. Consumes (R.remaining input.old) (R.remaining input.new) (take n buf.new)) }
     ensures end { IfOk result (λ n. n < length buf.new → IsAtEnd (R.remaining input.new)) }
 {
+    // std has no such method: `read_to_end` needs a `Vec`, and `read_exact` says nothing where the input ends before buf is full.
     let mut done = 0;
     while done < buf.len() {
         let n = input.read(&mut buf[done..])?;

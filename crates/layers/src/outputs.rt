@@ -8,7 +8,7 @@ ghost use Rattle.layers.specs.Asked.{OutputsReady};
 ghost use Rattle.records.specs.Asked.{WeighingOk};
 ghost use Rattle.layers.specs.Outputs.{outputs_for, byte_by, output_of, outputs_of};
 
-use fields::bytes::{signed_of, u32_at};
+use fields::bytes::i32_at;
 use numbers::finish::finish;
 use numbers::rescale::rescale;
 use numbers::total::total;
@@ -72,7 +72,7 @@ fn output_at(o: Outputs, file: &[u8], sums: &[u32], q: &[u8], bytes: u32, f: usi
 {
     let n = q.len();
     let first = o.weights + f * n;
-    let bias = signed_of(u32_at(file, o.biases + 4 * f));
+    let bias = i32_at(file, o.biases + 4 * f);
     output(o, q, &file[first..first + n], bytes, bias, sums[o.sums + f])
 }
 

@@ -1,4 +1,4 @@
 -- Laws that belong to no one function, and examples.
-pub mod Wrote
+pub mod Texts
 pub mod Lines
 pub mod Examples

@@ -1,15 +1,10 @@
 -- The lines of a listing: each is a chain of texts, and so is the table.
 -- Assumes nothing.
-use mathlib.Core.Path.{◌≡◌, refl, sym}
-use mathlib.Core.List.{List, [], ◌∷◌, append_assoc}
-use Prim.Native.Nat.{ℕ, zero, suc, ◌+◌, ◌≤◌, ◌<◌}
-use native.Mathlib.Omega.{arith}
-use lib.ListN.{length}
+use Rattle.std.proofs.Common.{◌≡◌, ℕ, zero, suc, ◌+◌, ◌≤◌, ◌<◌, List, [], ◌∷◌, length, refl, sym, ◌∙◌, arith, append_assoc}
 use Rattle.fields.specs.Shape.{bytes_of}
 use Rattle.fields.specs.Asked.{GoodShape}
-use Rattle.records.specs.Layer.{sums_of}
 use Rattle.fields.specs.declared.shape.Shape.{Shape}
-use Rattle.records.specs.declared.layer.Kind.{Kind}
+use Rattle.records.specs.Layer.{sums_of}
 use Rattle.records.specs.declared.layer.Layer.{Layer}
 use Rattle.lists.specs.Lists.{pasted, joined}
 use Rattle.lists.proofs.Pasted.{pasted_nil, joined_step}
@@ -18,57 +13,46 @@ use Rattle.network.specs.Decode.{decode_of}
 use Rattle.network.specs.Taken.{Taken}
 use Rattle.network.specs.declared.net.Network.{Network}
 use Rattle.network.specs.Decode.{Decoded}
-use Rattle.network.proofs.Bounds.{sums_few as sums-in-store}
 use Rattle.network.proofs.Taken.{taken}
+use Rattle.network.proofs.Bounds.{sums_few as sums-in-store}
+use Rattle.lines.specs.declared.text.Text.{Text}
 use Rattle.lines.specs.Listing.{decimal, column, line_of, word_of, heading, picture_word, layer_line, table_of, refused_line, listed, listing_of}
-use Rattle.lines.proofs.Wrote.{Wrote, Front, wrote_more, front_three}
+use Rattle.lines.specs.Text.{Adds}
+use Rattle.lines.proofs.Texts.{adds_more}
 
 -- ---- a line
 
 -- the nine texts of a line
 pub line_written :
-    (d : List ℕ) (at t : ℕ) (word : List ℕ) (s : Shape) (sums : ℕ)
-    {bytes m₁ m₂ m₃ m₄ m₅ m₆ m₇ m₈ m₉ : ℕ} {d₁ d₂ d₃ d₄ d₅ d₆ d₇ d₈ d₉ : List ℕ} →
-    at ≤ length d →
+    (t : ℕ) (word : List ℕ) (s : Shape) (sums : ℕ)
+    {bytes : ℕ} {a b₁ b₂ b₃ b₄ b₅ b₆ b₇ b₈ b₉ : Text} →
+    a.length ≤ length a.out.now →
     bytes ≡ bytes_of s →
-    Wrote d at (decimal t) m₁ d₁ →
-    Wrote d₁ m₁ (0x20 ∷ []) m₂ d₂ →
-    Wrote d₂ m₂ word m₃ d₃ →
-    Wrote d₃ m₃ (column s.rows) m₄ d₄ →
-    Wrote d₄ m₄ (column s.columns) m₅ d₅ →
-    Wrote d₅ m₅ (column s.channels) m₆ d₆ →
-    Wrote d₆ m₆ (column bytes) m₇ d₇ →
-    Wrote d₇ m₇ (column sums) m₈ d₈ →
-    Wrote d₈ m₈ (0x0A ∷ []) m₉ d₉ →
-    Wrote d at (line_of t word s sums) m₉ d₉
+    Adds a (decimal t) b₁ →
+    Adds b₁ (0x20 ∷ []) b₂ →
+    Adds b₂ word b₃ →
+    Adds b₃ (column s.rows) b₄ →
+    Adds b₄ (column s.columns) b₅ →
+    Adds b₅ (column s.channels) b₆ →
+    Adds b₆ (column bytes) b₇ →
+    Adds b₇ (column sums) b₈ →
+    Adds b₈ (0x0A ∷ []) b₉ →
+    Adds a (line_of t word s sums) b₉
 unfolding line_of
-line_written d at t word s sums h b w₁ w₂ w₃ w₄ w₅ w₆ w₇ w₈ w₉ =
-    let a₂ = wrote_more d at _ _ h w₁ w₂ in
-    let a₃ = simp append_assoc at (wrote_more d at _ _ h a₂ w₃) in
-    let a₄ = wrote_more d at _ _ h a₃ w₄ in
-    let a₅ = wrote_more d at _ _ h a₄ w₅ in
-    let a₆ = wrote_more d at _ _ h a₅ w₆ in
-    let a₇ = wrote_more d at _ _ h a₆ w₇ in
-    let a₈ = wrote_more d at _ _ h a₇ w₈ in
-    let a₉ = wrote_more d at _ _ h a₈ w₉ in
+line_written t word s sums h b w₁ w₂ w₃ w₄ w₅ w₆ w₇ w₈ w₉ =
+    let a₂ = adds_more _ _ h w₁ w₂ in
+    let a₃ = simp append_assoc at (adds_more _ _ h a₂ w₃) in
+    let a₄ = adds_more _ _ h a₃ w₄ in
+    let a₅ = adds_more _ _ h a₄ w₅ in
+    let a₆ = adds_more _ _ h a₅ w₆ in
+    let a₇ = adds_more _ _ h a₆ w₇ in
+    let a₈ = adds_more _ _ h a₇ w₈ in
+    let a₉ = adds_more _ _ h a₈ w₉ in
     rw b at a₉
-
--- what `put_line` says of a line
-abbrev pub Line : List ℕ → ℕ → List ℕ → ℕ → List ℕ → Type 0
-Line d at s r e = (r ≡ at + length s) × (r ≤ at + 45) × (e ≡ pasted d at s)
-
--- the line of what a layer makes, by its kind
-pub line_of_kind :
-    (d : List ℕ) (at t : ℕ) (s : Shape) (kind : Kind) {word e : List ℕ} {sums r : ℕ} →
-    word_of kind ≡ word →
-    sums ≡ sums_of kind →
-    Line d at (line_of t word s sums) r e →
-    Line d at (line_of t (word_of kind) s (sums_of kind)) r e
-line_of_kind d at t s kind w n l = rw (w, ← n) l
 
 -- ---- the table
 
--- what `put_layer` asks of layer m, which the code has as y
+-- what `layer` asks of layer m, which the code has as y
 module _ {s : List ℕ} {n : Network} (t : Taken s n) {m : ℕ} (h : m < n.count) {y : Layer} (e : y ≡ layer_of n m) where
   pub output_good : GoodShape y.output
   output_good = rw e (t.shapes (suc m) h)
@@ -77,31 +61,41 @@ module _ {s : List ℕ} {n : Network} (t : Taken s n) {m : ℕ} (h : m < n.count
   sums_few = rw e (sums-in-store s n t m h)
 
 -- no layer's line yet
-pub table_starts : (d : List ℕ) (at : ℕ) (f : ℕ → List ℕ) → Wrote d at (joined 0 f) at d
+pub table_starts : (a : Text) (f : ℕ → List ℕ) → Adds a (joined 0 f) a
 unfolding joined
-table_starts d at f = (omega arith, sym (pasted_nil d at))
+table_starts a f = record { same = refl; room = refl; long = omega arith; is = sym (pasted_nil _ _) }
 
 -- one layer's line more
 pub table_turns :
-    (d : List ℕ) (start : ℕ) (n : Network) (m : ℕ) {y : Layer} {at r : ℕ} {e f : List ℕ} →
-    start ≤ length d →
+    (n : Network) (m : ℕ) {y : Layer} {a b c : Text} →
+    a.length ≤ length a.out.now →
     y ≡ layer_of n m →
-    Wrote d start (joined m (layer_line n)) at e →
-    Wrote e at (line_of (m + 1) (word_of y.kind) y.output (sums_of y.kind)) r f →
-    Wrote d start (joined (m + 1) (layer_line n)) r f
-table_turns d start n m h l w x = rw joined_step (wrote_more d start _ _ h w (rw l at x))
+    Adds a (joined m (layer_line n)) b →
+    Adds b (line_of (m + 1) (word_of y.kind) y.output (sums_of y.kind)) c →
+    Adds a (joined (m + 1) (layer_line n)) c
+table_turns n m h l w x = rw joined_step (adds_more _ _ h w (rw l at x))
 
 -- every layer's line is there
 pub table_ends :
-    (d : List ℕ) (n : Network) {m first at r : ℕ} {d₁ d₂ d₃ : List ℕ} →
+    (n : Network) {m : ℕ} {a b c d : Text} →
+    a.length + 1024 ≤ length a.out.now →
     m ≡ n.count →
-    Wrote d 0 heading first d₁ →
-    Wrote d₁ first (line_of 0 picture_word n.picture 0) at d₂ →
-    Wrote d₂ at (joined m (layer_line n)) r d₃ →
-    Front d (table_of n) r d₃
-table_ends d n e w x y = rw e at (front_three d _ _ _ w x y)
+    Adds a heading b →
+    Adds b (line_of 0 picture_word n.picture 0) c →
+    Adds c (joined m (layer_line n)) d →
+    Adds a (table_of n) d
+table_ends n h e w x y =
+    rw e at (rw append_assoc at (adds_more _ _ (omega arith) (adds_more _ _ (omega arith) w x) y))
 
 -- ---- the listing
+
+-- the text s from the front of a slice, as it ends
+abbrev pub Front : List ℕ → List ℕ → ℕ → List ℕ → Type 0
+Front d s r e = (r ≡ length s) × (e ≡ pasted d 0 s)
+
+-- what a text adds to none, in the slice as it ends
+front : {s e : List ℕ} {a b : Text} → a.length ≡ 0 → Adds a s b → e ≡ b.out.now → Front a.out.now s b.length e
+front z w e = (omega (arith, w.long), e ∙ rw z at w.is)
 
 -- what is known of a file that is taken, of the answer that the code has
 pub decoded_taken : (s : List ℕ) {d : Decoded} → d ≡ decode_of s → d.fault ≡ 0 → Taken s d.network
@@ -109,30 +103,28 @@ decoded_taken s e h = rw e (taken s (rw e at h))
 
 -- a file that is taken
 pub taken_listed :
-    (s out : List ℕ) {d : Decoded} {r : ℕ} {e : List ℕ} →
+    (s : List ℕ) {d : Decoded} {e : List ℕ} {a b : Text} →
     d ≡ decode_of s →
     d.fault ≡ 0 →
-    Front out (table_of d.network) r e →
-    Front out (listing_of s) r e
+    a.length ≡ 0 →
+    Adds a (table_of d.network) b →
+    e ≡ b.out.now →
+    Front a.out.now (listing_of s) b.length e
 unfolding listing_of
-taken_listed s out l h f = rw (← l, h) f
+taken_listed s l h z w e = rw (← l, h) (front z w e)
 
 -- a file that is refused
 pub refused_listed :
-    (s out : List ℕ) {d : Decoded} {m₁ m₂ m₃ : ℕ} {d₁ d₂ d₃ : List ℕ} →
+    (s : List ℕ) {d : Decoded} {e : List ℕ} {a b : Text} →
     d ≡ decode_of s →
     (d.fault ≡ 0 → ⊥) →
-    Wrote out 0 (0x72 ∷ 0x65 ∷ 0x66 ∷ 0x75 ∷ 0x73 ∷ 0x65 ∷ 0x64 ∷ []) m₁ d₁ →
-    Wrote d₁ m₁ (column d.fault) m₂ d₂ →
-    Wrote d₂ m₂ (0x0A ∷ []) m₃ d₃ →
-    Front out (listing_of s) m₃ d₃
+    a.length ≡ 0 →
+    Adds a (refused_line d.fault) b →
+    e ≡ b.out.now →
+    Front a.out.now (listing_of s) b.length e
 unfolding listing_of
-refused_listed s out {d} l h w x y =
-    rw (← l) (by_number d.fault h (front_three out _ _ _ w x y)) where
-      by_number :
-          (k : ℕ) {r : ℕ} {e : List ℕ} →
-          (k ≡ 0 → ⊥) →
-          Front out (refused_line k) r e →
-          Front out (listed k d.network) r e
-      by_number zero g f = absurd (g refl)
-      by_number (suc k) g f = f
+refused_listed s {d} l h z w e =
+    rw (← l, by_number d.fault h) (front z w e) where
+      by_number : (k : ℕ) → (k ≡ 0 → ⊥) → listed k d.network ≡ refused_line k
+      by_number zero g = absurd (g refl)
+      by_number (suc k) g = refl

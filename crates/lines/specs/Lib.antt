@@ -1,2 +1,3 @@
 -- What the listing program writes.
 pub mod Listing
+pub mod Text

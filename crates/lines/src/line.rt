@@ -5,65 +5,75 @@ ghost use Rattle.fields.specs.Asked.{GoodShape};
 ghost use Rattle.records.specs.Layer.{sums_of};
 ghost use Rattle.network.specs.Taken.{Taken};
 ghost use Rattle.lists.specs.Lists.{pasted};
-ghost use Rattle.lines.specs.Listing.{line_of, word_of, table_of, listing_of};
+ghost use Rattle.lines.specs.Listing.{line_of, word_of, table_of, refused_line, listing_of};
+ghost use Rattle.lines.specs.Text.{Adds};
 
-use crate::text::{put_column, put_number, put_word};
+use crate::text::Text;
 use fields::shape::{Shape, bytes_of};
 use network::file::decode;
-use network::net::{Network, layer};
+use network::net::Network;
 use records::layer::{Kind, sums_of};
 
-// The line of a tensor.
-fn put_line(out: &mut [u8], at: usize, t: usize, word: &[u8], s: Shape, sums: usize) -> usize
-    requires good_shape { GoodShape s }
-    requires in_range { (t ≤ 16) × (sums ≤ channels_most) × (length word.now ≤ 7) × (at + 45 ≤ length out.old) }
-    ensures { (result ≡ at + length (line_of t word.now s sums)) × (result ≤ at + 45) × (out.new ≡ pasted out.old at (line_of t word.now s sums)) }
-{
-    let a = put_number(out, at, t, 5);
-    let b = put_word(out, a, b" ");
-    let c = put_word(out, b, word);
-    let d = put_column(out, c, s.rows);
-    let e = put_column(out, d, s.columns);
-    let f = put_column(out, e, s.channels);
-    let g = put_column(out, f, bytes_of(s));
-    let h = put_column(out, g, sums);
-    put_word(out, h, b"\n")
-}
-
-// The line of what a layer makes.
-fn put_layer(out: &mut [u8], at: usize, t: usize, kind: Kind, s: Shape) -> usize
-    requires good_shape { GoodShape s }
-    requires in_range { (t ≤ 16) × (sums_of kind ≤ channels_most) × (at + 45 ≤ length out.old) }
-    ensures { (result ≡ at + length (line_of t (word_of kind) s (sums_of kind))) × (result ≤ at + 45) × (out.new ≡ pasted out.old at (line_of t (word_of kind) s (sums_of kind))) }
-{
-    let sums = sums_of(kind);
-    match kind {
-        Kind::Conv(_) => put_line(out, at, t, b"conv", s, sums),
-        Kind::Full(_) => put_line(out, at, t, b"full", s, sums),
-        Kind::Add(_) => put_line(out, at, t, b"add", s, sums),
+impl Text<'_> {
+    // Adds the line of a tensor.
+    #[tactic(auto, using(crate::proofs::Texts::decimal_few))]
+    fn line(&mut self, tensor: usize, word: &[u8], shape: Shape, sums: usize)
+        requires good_shape { GoodShape shape }
+        requires in_range { (tensor ≤ 16) × (sums ≤ channels_most) × (length word.now ≤ 7) × (self.old.length + 45 ≤ length self.old.out.now) }
+        ensures written { Adds self.old (line_of tensor word.now shape sums) self.new }
+        ensures within { self.new.length ≤ self.old.length + 45 }
+    {
+        self.number(tensor);
+        self.word(b" ");
+        self.word(word);
+        self.column(shape.rows);
+        self.column(shape.columns);
+        self.column(shape.channels);
+        self.column(bytes_of(shape));
+        self.column(sums);
+        self.word(b"\n");
     }
-}
 
-// The heading, the picture's line, and a line for each layer.
-fn put_table(out: &mut [u8], file: &[u8], n: Network) -> usize
-    requires taken { Taken file.now n }
-    requires room { 1024 ≤ length out.old }
-    ensures written { (result ≡ length (table_of n)) × (out.new ≡ pasted out.old 0 (table_of n)) }
-    ensures within { result ≤ 1024 }
-{
-    let picture = n.picture;
-    let first = put_word(out, 0, b"tensor kind rows columns channels bytes sums\n");
-    let mut at = put_line(out, first, 0, b"picture", picture, 0);
-    let count = n.count;
-    let mut m: usize = 0;
-    while m < count {
-        let y = layer(n, m);
-        let kind = y.kind;
-        let output = y.output;
-        at = put_layer(out, at, m + 1, kind, output);
-        m += 1;
+    // Adds the line of what a layer makes.
+    fn layer_line(&mut self, tensor: usize, kind: Kind, shape: Shape)
+        requires good_shape { GoodShape shape }
+        requires in_range { (tensor ≤ 16) × (sums_of kind ≤ channels_most) × (self.old.length + 45 ≤ length self.old.out.now) }
+        ensures written { Adds self.old (line_of tensor (word_of kind) shape (sums_of kind)) self.new }
+        ensures within { self.new.length ≤ self.old.length + 45 }
+    {
+        let sums = sums_of(kind);
+        match kind {
+            Kind::Conv(_) => self.line(tensor, b"conv", shape, sums),
+            Kind::Full(_) => self.line(tensor, b"full", shape, sums),
+            Kind::Add(_) => self.line(tensor, b"add", shape, sums),
+        }
     }
-    at
+
+    // Adds the heading, the picture's line, and a line for each layer.
+    fn table(&mut self, file: &[u8], network: &Network)
+        requires taken { Taken file.now network.now }
+        requires room { self.old.length + 1024 ≤ length self.old.out.now }
+        ensures written { Adds self.old (table_of network.now) self.new }
+        ensures within { self.new.length ≤ self.old.length + 1024 }
+    {
+        self.word(b"tensor kind rows columns channels bytes sums\n");
+        self.line(0, b"picture", network.picture, 0);
+        for m in 0..network.count {
+            let layer = network.layer(m);
+            self.layer_line(m + 1, layer.kind, layer.output);
+        }
+    }
+
+    // Adds the line of a refused file.
+    fn refusal(&mut self, number: usize)
+        requires { (number < 100000) × (self.old.length + 14 ≤ length self.old.out.now) }
+        ensures written { Adds self.old (refused_line number) self.new }
+        ensures within { self.new.length ≤ self.old.length + 14 }
+    {
+        self.word(b"refused");
+        self.column(number);
+        self.word(b"\n");
+    }
 }
 
 // The listing of a file, to the front of out, and how long it is.
@@ -72,12 +82,10 @@ pub fn list(file: &[u8], out: &mut [u8]) -> usize
     ensures written { (result ≡ length (listing_of file.now)) × (out.new ≡ pasted out.old 0 (listing_of file.now)) }
     ensures within { result ≤ 1024 }
 {
-    let d = decode(file);
-    let network = d.network;
-    if d.fault == 0 {
-        return put_table(out, file, network);
+    let mut text = Text { out, length: 0 };
+    match decode(file) {
+        Ok(network) => text.table(file, &network),
+        Err(refusal) => text.refusal(usize::from(refusal.number())),
     }
-    let word = put_word(out, 0, b"refused");
-    let number = put_column(out, word, d.fault as usize);
-    put_word(out, number, b"\n")
+    text.length
 }

@@ -1,40 +1,49 @@
 // Words and numbers written into a slice, one after another.
-ghost use Rattle.std.specs.Prelude.{◌≡◌, ◌+◌, ◌^◌, ◌≤◌, ◌<◌, length};
-ghost use Rattle.lists.specs.Lists.{pasted};
-ghost use Rattle.lines.specs.Listing.{decimal_to, column};
+ghost use Rattle.std.specs.Prelude.{◌≡◌, ◌+◌, ◌≤◌, ◌<◌, length};
+ghost use Rattle.lines.specs.Listing.{decimal, column};
+ghost use Rattle.lines.specs.Text.{Adds};
 
 use lists::write::copy_in;
 
-// Writes a word from `at`, and says where the next one goes.
-pub fn put_word(out: &mut [u8], at: usize, word: &[u8]) -> usize
-    requires { at + length word.now ≤ length out.old }
-    ensures { (result ≡ at + length word.now) × (out.new ≡ pasted out.old at word.now) }
-{
-    copy_in(word, out, at);
-    at + word.len()
+// Text at the front of a slice, and how long it is.
+#[derive(Drop)]
+pub struct Text<'a> {
+    pub out: &'a mut [u8],
+    pub length: usize,
 }
 
-// Writes a number in decimal: the digits before the last one first.
-pub fn put_number(out: &mut [u8], at: usize, n: usize, k: usize) -> usize
-    requires { (0 < k) × (n < 10 ^ k) × (at + k ≤ length out.old) }
-    ensures written { (result ≡ at + length (decimal_to k n)) × (out.new ≡ pasted out.old at (decimal_to k n)) }
-    ensures within { result ≤ at + k }
-{
-    if n < 10 {
-        out[at] = 48 + n as u8;
-        return at + 1;
+impl Text<'_> {
+    // Adds a word.
+    pub fn word(&mut self, word: &[u8])
+        requires { self.old.length + length word.now ≤ length self.old.out.now }
+        ensures { Adds self.old word.now self.new }
+    {
+        let at = self.length;
+        copy_in(word, self.out, at);
+        self.length += word.len();
     }
-    let next = put_number(out, at, n / 10, k - 1);
-    out[next] = 48 + (n % 10) as u8;
-    next + 1
-}
 
-// Writes a space and a number.
-pub fn put_column(out: &mut [u8], at: usize, n: usize) -> usize
-    requires { (n < 100000) × (at + 6 ≤ length out.old) }
-    ensures written { (result ≡ at + length (column n)) × (out.new ≡ pasted out.old at (column n)) }
-    ensures within { result ≤ at + 6 }
-{
-    out[at] = b' ';
-    put_number(out, at + 1, n, 5)
+    // Adds a number in decimal: the digits before the last one first. They are made by hand, since no clause of std says that a `Display`
+    // written into a buffer succeeds.
+    pub fn number(&mut self, n: usize)
+        requires { (n < 100000) × (self.old.length + length (decimal n) ≤ length self.old.out.now) }
+        ensures { Adds self.old (decimal n) self.new }
+    {
+        if n < 10 {
+            return self.word(&[b'0' + n as u8]);
+        }
+        self.number(n / 10);
+        self.word(&[b'0' + (n % 10) as u8]);
+    }
+
+    // Adds a space and a number.
+    #[tactic(auto, using(crate::proofs::Texts::decimal_few))]
+    pub fn column(&mut self, n: usize)
+        requires { (n < 100000) × (self.old.length + 6 ≤ length self.old.out.now) }
+        ensures written { Adds self.old (column n) self.new }
+        ensures within { self.new.length ≤ self.old.length + 6 }
+    {
+        self.word(b" ");
+        self.number(n);
+    }
 }

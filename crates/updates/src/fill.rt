@@ -5,15 +5,15 @@ ghost use Rattle.lists.specs.Lists.{pasted};
 ghost use Rattle.updates.specs.Recompute.{network_sums};
 
 use layers::sums::put_sums;
-use network::net::{Network, layer};
+use network::net::Network;
 
 // The true sums of all layers, to the front of the store.
-pub fn fill_sums(file: &[u8], n: Network, sums: &mut [u32])
-    requires taken { Taken file.now n }
-    requires store_in_bounds { n.store ≤ length sums.old }
-    ensures { sums.new ≡ pasted sums.old 0 (network_sums n file.now) }
+pub fn fill_sums(file: &[u8], n: &Network, sums: &mut [u32])
+    requires taken { Taken file.now n.now }
+    requires store_in_bounds { n.now.store ≤ length sums.old }
+    ensures { sums.new ≡ pasted sums.old 0 (network_sums n.now file.now) }
 {
     for m in 0..n.count {
-        put_sums(layer(n, m), file, sums);
+        put_sums(n.layer(m), file, sums);
     }
 }

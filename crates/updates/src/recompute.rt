@@ -13,7 +13,7 @@ use bands::reach::grow_one;
 use bands::state::{State, band_of};
 use checks::tensors::link_of;
 use layers::row::put_rows;
-use network::net::{Network, layer, place, zero_point};
+use network::net::Network;
 use numbers::limits::WINDOW_MOST;
 
 // What one layer's step answers: the bands grown so far, and the bytes recomputed.
@@ -26,21 +26,21 @@ struct Step {
 // One layer's step: its band grows, and the rows in it are recomputed.
 fn recompute_layer(
     file: &[u8],
-    n: Network,
+    n: &Network,
     sums: &[u32],
     area: &mut [u8],
     patch: &mut [u8],
     s: State,
     m: usize,
 ) -> Step
-    requires can_recompute { CanRecompute file.now n sums.now (length area.old) }
-    requires bands_within { BandsWithin n s }
-    requires m_lt_count { (m < n.count) × (window_most ≤ length patch.old) }
-    ensures state_value { result.state ≡ grow_one s (link_of n m) m }
-    ensures count_value { result.count ≡ bytes_in (band_of result.state (suc m)) (tensor_of n (suc m)).rows (row_bytes (tensor_of n (suc m))) }
-    ensures area_after { area.new ≡ redone n file.now sums.now m (band_of result.state (suc m)) area.old }
+    requires can_recompute { CanRecompute file.now n.now sums.now (length area.old) }
+    requires bands_within { BandsWithin n.now s }
+    requires m_lt_count { (m < n.now.count) × (window_most ≤ length patch.old) }
+    ensures state_value { result.state ≡ grow_one s (link_of n.now m) m }
+    ensures count_value { result.count ≡ bytes_in (band_of result.state (suc m)) (tensor_of n.now (suc m)).rows (row_bytes (tensor_of n.now (suc m))) }
+    ensures area_after { area.new ≡ redone n.now file.now sums.now m (band_of result.state (suc m)) area.old }
 {
-    let y = layer(n, m);
+    let y = n.layer(m);
     let link = link_of(n, m);
     let state = grow_one(s, link, m);
     let band = band_of(state, m + 1);
@@ -48,14 +48,14 @@ fn recompute_layer(
     let end = band.end as usize;
     put_rows(
         y,
-        zero_point(n, m),
-        zero_point(n, link.other),
+        n.zero_point(m),
+        n.zero_point(link.other),
         file,
         sums,
         &mut area[..n.area],
         patch,
-        place(n, m),
-        place(n, link.other),
+        n.place(m),
+        n.place(link.other),
         first,
         end,
     );
@@ -66,11 +66,11 @@ fn recompute_layer(
 }
 
 // All layers in order, from the bands of the state s. The answer is the bytes recomputed.
-pub fn recompute(file: &[u8], n: Network, sums: &[u32], area: &mut [u8], s: State) -> u32
-    requires can_recompute { CanRecompute file.now n sums.now (length area.old) }
-    requires bands_within { BandsWithin n s }
-    ensures value { result ≡ count_to n s n.count }
-    ensures area_after { area.new ≡ updated_to n file.now sums.now s n.count area.old }
+pub fn recompute(file: &[u8], n: &Network, sums: &[u32], area: &mut [u8], s: State) -> u32
+    requires can_recompute { CanRecompute file.now n.now sums.now (length area.old) }
+    requires bands_within { BandsWithin n.now s }
+    ensures value { result ≡ count_to n.now s n.now.count }
+    ensures area_after { area.new ≡ updated_to n.now file.now sums.now s n.now.count area.old }
 {
     let mut patch = [0u8; WINDOW_MOST];
     let mut state = s;

@@ -1,7 +1,4 @@
-// The program's words: files, and numbers. What is wrong with one is said on standard error.
-ghost use Rattle.std.specs.Prelude.{◌≡◌, ◌≤◌, length, take};
-ghost use Rattle.std.specs.Io.{ReadsAtMost};
-
+// The program's words: files, and numbers. What is wrong with one is said on standard error, and there is none of it.
 use crate::print;
 use crate::print::Output;
 use inputs::fill;
@@ -9,68 +6,46 @@ use std::env::FillError;
 use std::rt::{Env, Files};
 use std::{fs, io, str};
 
-// What was read of a file: its length, and whether that is all of it or more than any file here may have.
-#[derive(Clone, Copy)]
-pub struct Got {
-    pub ok: bool,
-    pub length: usize,
-}
-
-// What a word spells: a number, where it is one.
-#[derive(Clone, Copy)]
-pub struct Number {
-    pub ok: bool,
-    pub value: usize,
-}
-
 // Whether the program was called with a word i; word 0 is its own name.
 pub fn has_word(rt: &impl Env, i: usize) -> bool {
     !matches!(rt.arg(i, &mut []), Err(FillError::NotPresent))
 }
 
-// Word i at the front of text, and its length; one that is longer than text counts as empty.
-fn word(rt: &impl Env, i: usize, text: &mut [u8; 4096]) -> usize
-    ensures in_bounds { result ≤ length text.new }
-    ensures front { result ≡ length (take result text.new) }
-{
-    match rt.arg(i, text) {
-        Ok(n) => n,
-        Err(_) => 0,
-    }
+// Word i, at the front of text; one that is longer than text counts as empty.
+fn word<'a>(rt: &impl Env, i: usize, text: &'a mut [u8; 4096]) -> &'a [u8] {
+    let length = rt.arg(i, text).unwrap_or(0);
+    &text[..length]
 }
 
 // The system's number for text in no encoding of its own, which stands for a file's name that is not UTF-8.
 const EILSEQ: i32 = 84;
 
-// Reads the file of that name to the front of buf. A full buffer is too long for any call, whatever follows; with fewer bytes the file
-// has ended.
-fn contents(rt: &impl Files, name: &[u8], buf: &mut [u8; 65537]) -> io::Result<usize>
-    ensures { ReadsAtMost result buf.new }
-{
-    match str::from_utf8(name) {
-        Ok(path) => {
-            let mut file = fs::open(rt, path)?;
-            fill(&mut file, buf)
-        }
-        Err(_) => Err(io::Error::from_raw_os_error(EILSEQ)),
-    }
+// The bytes of the file of that name, at the front of buf. A full buffer is too long for any call, whatever follows; with fewer bytes the
+// file has ended.
+fn contents<'a>(
+    rt: &impl Files,
+    name: &[u8],
+    buf: &'a mut [u8; 65537],
+) -> io::Result<&'a mut [u8]> {
+    let path = str::from_utf8(name).map_err(|_| io::Error::from_raw_os_error(EILSEQ))?;
+    let length = fill(&mut fs::open(rt, path)?, buf)?;
+    Ok(&mut buf[..length])
 }
 
-// Reads the file that word i names to the front of buf.
-pub fn file(rt: &(impl Env + Files), to: &Output, i: usize, buf: &mut [u8; 65537]) -> Got
-    ensures in_bounds { result.length ≤ length buf.new }
-    ensures front { result.length ≡ length (take result.length buf.new) }
-{
-    let mut name = [0u8; 4096];
-    let n = word(rt, i, &mut name);
-    match contents(rt, &name[..n], buf) {
-        Ok(length) => Got { ok: true, length },
+// The bytes of the file that word i names, at the front of buf.
+pub fn file<'a>(
+    rt: &(impl Env + Files),
+    to: &Output,
+    i: usize,
+    buf: &'a mut [u8; 65537],
+) -> Option<&'a mut [u8]> {
+    let mut text = [0u8; 4096];
+    let name = word(rt, i, &mut text);
+    match contents(rt, name, buf) {
+        Ok(bytes) => Some(bytes),
         Err(error) => {
-            print::failure(to, &name[..n], error);
-            Got {
-                ok: false,
-                length: 0,
-            }
+            print::failure(to, name, error);
+            None
         }
     }
 }
@@ -78,43 +53,28 @@ pub fn file(rt: &(impl Env + Files), to: &Output, i: usize, buf: &mut [u8; 65537
 // Says word i.
 pub fn say_word(rt: &impl Env, to: &Output, i: usize) {
     let mut text = [0u8; 4096];
-    let n = word(rt, i, &mut text);
-    print::say(to, &text[..n]);
+    print::say(to, word(rt, i, &mut text));
 }
 
-// What stands for no number; the longest that are taken have nine digits.
-const NONE: usize = 1000000000;
+// Every number that is taken is below.
+const LIMIT: usize = 1000000000;
 
-// A number with one digit more, or none.
-fn longer(value: usize, c: u8) -> usize {
-    match c {
-        b'0'..=b'9' => {
-            if value < 100000000 {
-                return 10 * value + (c - b'0') as usize;
-            }
-            NONE
-        }
-        _ => NONE,
+// The number that digits alone spell: a sign, which `parse` takes, is none.
+fn spelt(text: &[u8]) -> Option<usize> {
+    if !text.iter().all(|c| c.is_ascii_digit()) {
+        return None;
     }
-}
-
-// The number that digits alone spell.
-fn spelt(text: &[u8]) -> usize {
-    let mut value: usize = 0;
-    for c in text {
-        value = longer(value, *c);
-    }
-    value
+    let number = str::from_utf8(text).ok()?.parse::<usize>().ok()?;
+    (number < LIMIT).then_some(number)
 }
 
 // Word i as a number.
-pub fn read_number(rt: &impl Env, to: &Output, i: usize) -> Number {
+pub fn read_number(rt: &impl Env, to: &Output, i: usize) -> Option<usize> {
     let mut text = [0u8; 4096];
-    let n = word(rt, i, &mut text);
-    let value = spelt(&text[..n]);
-    let ok = 0 < n && value < NONE;
-    if !ok {
-        print::no_number(to, &text[..n]);
+    let text = word(rt, i, &mut text);
+    let number = spelt(text);
+    if number.is_none() {
+        print::no_number(to, text);
     }
-    Number { ok, value }
+    number
 }

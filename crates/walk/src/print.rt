@@ -1,4 +1,5 @@
 // What the program writes: the morning on standard output, and on standard error what stops it. What cannot be written is left out.
+use refusals::refusal::Refusal;
 use std::fmt::InlineText;
 use std::rt::{Stderr, Stdout};
 use std::{fmt, io};
@@ -21,6 +22,13 @@ pub enum Call {
     Read,
 }
 
+// A call that refused, and why.
+#[derive(Clone, Copy)]
+pub struct Refused {
+    pub call: Call,
+    pub why: Refusal,
+}
+
 // A call's name.
 impl fmt::Display for Call {
     fn fmt<W: fmt::Write>(&self, f: &mut fmt::Formatter<W>) -> fmt::Result {
@@ -35,8 +43,15 @@ impl fmt::Display for Call {
     }
 }
 
-// A call and the number that it answered.
-pub fn answer(to: &Output, call: Call, number: u8) {
+// A call that was taken.
+pub fn taken(to: &Output, call: Call) {
+    let _ = println!(to.out; "{call}: number 0");
+}
+
+// A call and the number that it refused by.
+pub fn answer(to: &Output, refused: Refused) {
+    let Refused { call, why } = refused;
+    let number = why.number();
     let _ = println!(to.out; "{call}: number {number}");
 }
 
@@ -63,28 +78,10 @@ pub fn usage(to: &Output) {
     let _ = eprintln!(to.err; "usage: walk NETWORK PICTURE FIRST COUNT ROWS LAYER RECORD");
 }
 
-// Why a call refuses by this number.
-fn reason(number: u8) -> &'static str {
-    match number {
-        1 => "a record is cut, its mark unknown, a spare not 0, or bytes follow the last layer",
-        2 => "a field or bias outside its range",
-        3 =>
-            "file too long, kernel too big, shapes of an add differ, tensor j not there yet, a tensor or all tensors too big",
-        4 => "sum store or area shorter than needed (longer is allowed; the rest stays)",
-        5 =>
-            "a band not 0,0 for a tensor that the network lacks; first > end; end > rows; empty but not 0,0",
-        6 => "a stored sum above 255N",
-        7 =>
-            "layer number not 1..n; no rows, or rows beyond the picture; rows or reading slice of the wrong length",
-        8 => "a reading while any band is not empty",
-        _ =>
-            "replacement differs in length, or in bytes 0-6 (convolution), 0-3 (full), 0-2 (add); or has a field, bias or spare out of range",
-    }
-}
-
 // That a call refused, and why.
-pub fn refusal(to: &Output, call: Call, number: u8) {
-    let why = reason(number);
+pub fn refusal(to: &Output, refused: Refused) {
+    let Refused { call, why } = refused;
+    let number = why.number();
     let _ = eprintln!(to.err; "{call}: refused {number}: {why}");
 }
 

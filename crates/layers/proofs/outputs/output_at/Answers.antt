@@ -1,11 +1,10 @@
 -- `layers::outputs::output_at` meets its contract.
-use mathlib.Core.Path.{ap, ◌∙◌}
+use mathlib.Core.Path.{◌∙◌}
 use Prim.Native.Nat.{◌+◌, ◌*◌}
 use borrow.Author.Rules.{sfits_of}
 use lib.ListN.{length}
 use mir.Syntax.{w32}
 use mir.ValLaws.{to_z-of_z}
-use Rattle.fields.specs.Bytes.{signed}
 use Rattle.lists.proofs.Laid.{cut_is}
 use Rattle.layers.proofs.Totals.{output-is}
 use Rattle.layers.proofs.outputs.output_at.Goals.{Start}
@@ -15,6 +14,6 @@ pub returns : goal.returns
 returns c =
     let a = c.args in
     let q = a.q.now in
-    let bias = to_z-of_z w32 _ (sfits_of c.signed_of-bias.type_inv) ∙ c.signed_of-bias.ensures ∙ ap signed c.u32_at.ensures in
+    let bias = to_z-of_z w32 _ (sfits_of c.i32_at-bias.type_inv) ∙ c.i32_at-bias.ensures in
     output-is a.o a.file.now a.sums.now q a.f bias
     (cut_is a.file.now (a.o.weights + a.f * length q) (length q)) c.output.ensures

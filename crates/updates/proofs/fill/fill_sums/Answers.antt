@@ -11,7 +11,7 @@ pub put_sums-requires : goal.put_sums-requires
 put_sums-requires c =
     let t = c.requires.taken in
     let h = c.loop-m-test.true in
-    let n = c.args.n in
+    let n = c.args.n.now in
     let m = c.loop-m.m in
     let file = c.args.file.now in
     rw c.layer.ensures (record {
@@ -24,5 +24,5 @@ put_sums-requires c =
 
 pub loop-m-preserved : goal.loop-m-preserved
 loop-m-preserved c =
-    fill-turn c.args.n c.args.file.now c.args.sums.now c.loop-m.m c.layer.result c.requires.taken c.loop-m-test.true c.loop-m.invariant c.layer.ensures
+    fill-turn c.args.n.now c.args.file.now c.args.sums.now c.loop-m.m c.layer.result c.requires.taken c.loop-m-test.true c.loop-m.invariant c.layer.ensures
     c.put_sums.ensures c.put_sums.auto.sums
