@@ -14,6 +14,7 @@ use network::net::Network;
 use refusals::refusal::Refusal;
 
 // Tests 1 to 7, with the lengths of the area and of the rows.
+#[tactic(auto, using(fields::proofs::Refusals::in_order))]
 fn tested(
     file: &[u8],
     sums: &[u32],

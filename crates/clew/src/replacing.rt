@@ -18,6 +18,7 @@ use records::layer::Layer;
 use refusals::refusal::Refusal;
 
 // Tests 1 to 7 and 9, with the length of the area: the layer in place.
+#[tactic(auto, using(fields::proofs::Refusals::in_order))]
 fn tested(
     file: &[u8],
     sums: &[u32],
