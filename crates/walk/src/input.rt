@@ -1,4 +1,4 @@
-// The program's words: files, and numbers. What is wrong with one is said on standard error, and there is none of it.
+// The program's words: files, and numbers. What is wrong with one is said on standard error.
 use crate::print;
 use crate::print::Output;
 use inputs::fill;
@@ -57,7 +57,7 @@ pub fn say_word(rt: &impl Env, to: &Output, i: usize) {
 }
 
 // Every number that is taken is below.
-const LIMIT: usize = 1000000000;
+const LIMIT: usize = 1_000_000_000;
 
 // The number that digits alone spell: a sign, which `parse` takes, is none.
 fn spelt(text: &[u8]) -> Option<usize> {

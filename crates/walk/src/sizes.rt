@@ -15,13 +15,8 @@ pub struct Lengths {
 pub fn fit(rt: &impl Env, to: &Output, file: &[u8], length: usize) -> Option<Lengths> {
     let sizes = clew::sizes(file);
     if let Ok(why) = Refusal::try_from(sizes.number) {
-        print::refusal(
-            to,
-            Refused {
-                call: Call::Sizes,
-                why,
-            },
-        );
+        let call = Call::Sizes;
+        print::refusal(to, Refused { call, why });
         return None;
     }
     if length != sizes.picture {
