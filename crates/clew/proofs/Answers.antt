@@ -34,10 +34,6 @@ refused by refusal {r} {fault} h e p = rw (← e) (at r p) where
   at zero q = absurd (q refl)
   at (suc k) q = h k
 
--- two tests passed
-none : (a b : ℕ) → a ≡ 0 → b ≡ 0 → first a b ≡ 0
-none a b p q = first-none a b p ∙ q
-
 -- a list pasted over all of another
 pasted_whole : (d t : List ℕ) → length t ≡ length d → pasted d 0 t ≡ t
 unfolding pasted
@@ -96,16 +92,13 @@ module _ (file sums area : List ℕ) (s : State) where
     change-refused = refused (λ k. change_by k (decode_of file).network area s from count rows) (λ k. (outcome k 0 s, area)) (λ k. refl)
 
     pub change-done :
-        {r : ℕ} {n : Network} →
-        Entered file sums (length area) s n →
-        r ≡ rows_fault n from count (length rows) →
-        r ≡ 0 →
+        {n : Network} →
+        0 ≡ first (call_fault file sums (length area) s) (rows_fault (decode_of file).network from count (length rows)) →
+        n ≡ (decode_of file).network →
         change_of file sums area s from count rows ≡
         (outcome 0 0 (changed s from (from + count)), pasted area (from * row_bytes n.picture) rows)
     unfolding change_of
-    change-done e er p =
-        let z = none _ _ e.none (rw e.network at (sym er ∙ p)) in
-        rw (z, e.network)
+    change-done e k = rw (← e, k)
 
   module _ (out : List ℕ) where
     pub read-refused :
@@ -117,15 +110,12 @@ module _ (file sums area : List ℕ) (s : State) where
     read-refused = refused (λ k. read_by k (decode_of file).network area s out) (λ k. (outcome k 0 s, out)) (λ k. refl)
 
     pub read_done :
-        {r : ℕ} {n : Network} →
-        Entered file sums (length area) s n →
-        r ≡ first (slice_fault n (length out)) (stale_fault s) →
-        r ≡ 0 →
+        {n : Network} →
+        0 ≡ first (call_fault file sums (length area) s) (first (slice_fault (decode_of file).network (length out)) (stale_fault s)) →
+        n ≡ (decode_of file).network →
         read_of file sums area s out ≡ (outcome 0 0 s, tensor_at area (place_of n n.count) (tensor_of n n.count))
     unfolding read_of
-    read_done e er p =
-        let z = none _ _ e.none (rw e.network at (sym er ∙ p)) in
-        rw (z, e.network)
+    read_done e k = rw (← e, k)
 
     -- what is copied over a slice of the tensor's length, from where the tensor lies
     pub slice-read :
@@ -151,18 +141,11 @@ module _ (file sums area : List ℕ) (s : State) where
         refused (λ j. replace_by j (layer_of (decode_of file).network (k - 1)) file sums s k new) (λ j. (outcome j 0 s, file, sums)) (λ j. refl)
 
     pub replace-done :
-        {a b : ℕ} {n : Network} {y : Layer} →
-        Entered file sums (length area) s n →
-        a ≡ layer_fault n k →
-        a ≡ 0 →
-        y ≡ layer_of n (k - 1) →
-        b ≡ replace_fault file y new →
-        b ≡ 0 →
+        {y : Layer} →
+        0 ≡ first (call_fault file sums (length area) s)
+        (first (layer_fault (decode_of file).network k) (replace_fault file (layer_of (decode_of file).network (k - 1)) new)) →
+        y ≡ layer_of (decode_of file).network (k - 1) →
         replace_of file sums area s k new ≡
         (outcome 0 0 (replaced s k y.output.rows), pasted file y.start new, pasted sums y.sums (layer_sums y (pasted file y.start new)))
     unfolding replace_of
-    replace-done p ea za ey eb zb =
-        let seven = rw p.network at (sym ea ∙ za) in
-        let nine = rw (ey, p.network) at (sym eb ∙ zb) in
-        let z = none _ _ p.none (none _ _ seven nine) in
-        rw (z, ey, p.network)
+    replace-done e h = rw (← e, h)

@@ -1,8 +1,10 @@
 -- What is known where tests 1 to 6 pass.
 -- Assumes nothing.
 use Prim.Native.Nat.{ℕ}
-use mathlib.Core.Path.{◌≡◌, sym, ◌∙◌}
+use mathlib.Core.Path.{◌≡◌, refl, sym, ◌∙◌}
 use mathlib.Core.List.{List}
+use Rattle.fields.specs.Faults.{first}
+use Rattle.fields.proofs.Tests.{first_both}
 use Rattle.network.specs.Decode.{decode_of}
 use Rattle.network.specs.declared.net.Network.{Network}
 use Rattle.bands.specs.declared.state.State.{State}
@@ -31,3 +33,13 @@ entered file sums area s e h =
       can = rw e.1 (record { taken = l.taken; sums-in = l.store_in; sums-fit = p.sums-fit; area_in = l.area_in });
       fair = rw e.1 (λ t q. let f = bands-fair file _ l.taken s p.state t q in (f.order, f.within));
     }
+
+-- and of tests after them
+pub passed_on :
+    (file sums : List ℕ) (area : ℕ) (s : State) {rest : ℕ} {n : Network} →
+    0 ≡ first (call_fault file sums area s) rest →
+    n ≡ (decode_of file).network →
+    Entered file sums area s n × (rest ≡ 0)
+passed_on file sums area s e k =
+    let p = first_both _ _ (sym e) in
+    (entered file sums area s (sym p.0, k) refl, p.1)

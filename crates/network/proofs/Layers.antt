@@ -21,6 +21,7 @@ use Rattle.fields.specs.declared.shape.Shape.{Shape}
 use Rattle.records.specs.declared.layer.Layer.{Layer}
 use Rattle.records.specs.Reader.{Read}
 use Rattle.records.specs.Reader.{Refused, Found}
+use Rattle.fields.proofs.Refusals.{number_some}
 use Rattle.fields.proofs.Tests.{first_both, first_some, first-none, unless-none, within_in, cut_there}
 use Rattle.fields.proofs.Shapes.{size_in, good_shape}
 use Rattle.records.proofs.Answers.{Answered}
@@ -191,18 +192,6 @@ started_number BadRecord picture z count = refl
 pub started_none : (picture : Shape) (z count : ℕ) → started 0 picture z count ≡ going 10 0 (empty_network picture z count (bytes_of picture))
 unfolding started
 started_none picture z count = refl
-
--- a refusal has a number
-pub number_some : (e : Refusal) → refusal_number e ≡ 0 → ⊥
-number_some Malformed h = omega arith
-number_some OutOfRange h = omega arith
-number_some Unfit h = omega arith
-number_some NoRoom h = omega arith
-number_some BadBands h = omega arith
-number_some BadSums h = omega arith
-number_some BadArguments h = omega arith
-number_some Stale h = omega arith
-number_some BadRecord h = omega arith
 
 pub fine_next : (s : List ℕ) (left : ℕ) (p : Progress) → 0 < left → Fine s left p → CanStep s p
 fine_next s left p h f e =
