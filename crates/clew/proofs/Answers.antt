@@ -10,7 +10,6 @@ use lib.Seq.{drop-length}
 use Rattle.fields.specs.Faults.{first}
 use Rattle.fields.specs.Shape.{bytes_of, row_bytes}
 use Rattle.records.specs.declared.layer.Layer.{Layer}
-use Rattle.fields.proofs.Tests.{first-none}
 use Rattle.network.specs.Network.{layer_of, tensor_of, place_of}
 use Rattle.network.specs.Decode.{decode_of}
 use Rattle.network.specs.Replace.{replace_fault}

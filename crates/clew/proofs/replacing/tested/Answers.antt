@@ -1,5 +1,5 @@
 -- `clew::replacing::tested` meets its contract.
-use Rattle.std.proofs.Common.{◌-◌, ◌<◌, ◌≤◌, refl, arith}
+use Rattle.std.proofs.Common.{refl, arith}
 use Rattle.clew.proofs.Entered.{entered}
 use Rattle.clew.proofs.Rooms.{layer_there, record-there}
 use Rattle.clew.proofs.replacing.tested.Goals as goal
