@@ -7,11 +7,7 @@ pub fn copy_in(src: &[u8], dst: &mut [u8], at: usize)
     requires { at + length src.now ≤ length dst.old }
     ensures { dst.new ≡ pasted dst.old at src.now }
 {
-    let mut i = 0;
-    while i < src.len() {
-        dst[at + i] = src[i];
-        i += 1;
-    }
+    dst[at..at + src.len()].copy_from_slice(src);
 }
 
 // Writes n bytes z into dst from at.
@@ -19,9 +15,5 @@ pub fn fill_in(dst: &mut [u8], at: usize, n: usize, z: u8)
     requires { at + n ≤ length dst.old }
     ensures { dst.new ≡ pasted dst.old at (replicate n z) }
 {
-    let mut i = 0;
-    while i < n {
-        dst[at + i] = z;
-        i += 1;
-    }
+    dst[at..at + n].fill(z);
 }
