@@ -7,10 +7,10 @@ use native.Mathlib.Nat.{add-zero, zero-add, mul-one, mul-le-mul_right}
 use native.Mathlib.Omega.{arith}
 use native.Mathlib.Decide.{ℕ_discrete}
 use lib.ListN.{length, get_or, set, replicate, length-set, length-replicate, get_or-append}
-use lib.Seq.{get_or-take, get_or-drop, get_or_at}
+use lib.Seq.{get_or-take, get_or-drop, get_or_at, take_all, drop-cons}
 use Rattle.lists.specs.Lists.{pasted, joined, part}
 use Rattle.lists.specs.Asked.{Apart}
-use Rattle.lists.proofs.Pasted.{part_length, part_apart, apart_within, pasted_nil, pasted_whole, joined_length, ones_length, joined_more, joined-set, joined_done}
+use Rattle.lists.proofs.Pasted.{part_length, part_apart, apart_within, pasted_nil, pasted_whole, joined_length, ones_length, joined_more, joined-set, joined_done, joined-part, joined_fill}
 
 -- an element of a part
 pub part_at : {A : Type 0} (d : List A) (z : A) (at n i : ℕ) → i < n → get_or (part d at n) i z ≡ get_or d (at + i) z
@@ -134,3 +134,16 @@ pub laid_array : {A : Type 0}
 laid_array n v z l h =
     laid_done n (λ i. v i ∷ []) (replicate n z) 0 l h ∙
     pasted_whole (replicate n z) (joined n (λ i. v i ∷ [])) (ones_length n v ∙ sym (length-replicate n z))
+
+-- all elements of a list, one after another
+pub joined_all : {A : Type 0} (s : List A) (z : A) → joined (length s) (λ i. get_or s i z ∷ []) ≡ s
+joined_all s z =
+    joined-part (length s) 1 0 s (λ i. get_or s i z ∷ []) (λ i h. one i h)
+    ∙ rw mul-one (take_all (length s) s (omega arith))
+  where
+    one : (i : ℕ) → i < length s → get_or s i z ∷ [] ≡ part s (0 + i * 1) 1
+    one i h = rw (zero-add, mul-one, drop-cons s i z h) refl
+
+-- one element n times
+pub joined_one : {A : Type 0} (n : ℕ) (z : A) → joined n (λ i. z ∷ []) ≡ replicate n z
+joined_one n z = joined_fill n 1 z (λ i. z ∷ []) (λ i h. refl) ∙ ap (λ k. replicate k z) (mul-one n)

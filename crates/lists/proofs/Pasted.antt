@@ -8,7 +8,6 @@ use native.Mathlib.Nat.{add-zero, zero-add, add-suc, add_assoc, add-sub_of_le, z
 use native.Mathlib.Numerals.{add-one}
 use native.Mathlib.Omega.{arith}
 use lib.ListN.{length, take, drop, set, replicate, length-append, length-take, length-drop, take-append-drop, drop_of_length-le, replicate-append-replicate}
-use borrow.Rule.Slice.PartMut.{put_mid}
 use lib.Seq.{set_split, take_at, drop_at, take-take, drop-drop, take-add}
 use Rattle.lists.specs.Lists.{pasted, joined, part}
 use Rattle.lists.specs.Asked.{Apart}
@@ -149,15 +148,6 @@ pub pasted-set : {A : Type 0}
 pasted-set d at n v s e h =
     pasted_one (pasted d at s) (at + n) v (rw (pasted_length d at s (omega arith)) h) ∙
     pasted_more d at n s (v ∷ []) e (omega arith)
-
--- a part of k elements that is written as one now holds s
-pub put-pasted : {A : Type 0}
-    (d : List A) (at k : ℕ) (s : List A) {ys : List A} →
-    ys ≡ s →
-    k ≡ length s →
-    put_mid at k d ys ≡ pasted d at s
-unfolding pasted
-put-pasted d at k s e h = rw (e, h, drop-drop, append_assoc) refl
 
 -- ---- parts joined
 

@@ -1,12 +1,18 @@
--- `lists::write::fill_in` meets its contract: the part of `dst` holds n bytes z now.
-use Rattle.std.proofs.Common.{ap, ◌∙◌, replicate, arith}
-use Rattle.std.proofs.lemmas.List.{length-replicate}
-use Rattle.lists.proofs.Laid.{cut_length}
-use Rattle.lists.proofs.Pasted.{put-pasted}
+use mathlib.Core.Path.{refl, ◌∙◌, ap}
+use native.Mathlib.Omega.{arith}
+use Rattle.lists.specs.Lists.{pasted}
+use Rattle.lists.proofs.Laid.{laid_none, laid_store, laid_done, joined_one}
 use Rattle.lists.proofs.write.fill_in.Goals as goal
+
+pub loop-i-init : goal.loop-i-init
+loop-i-init c = laid_none _ _ _ _
+
+pub loop-i-preserved : goal.loop-i-preserved
+loop-i-preserved c =
+    let a = c.args in
+    laid_store a.n (λ k. a.z) a.dst.now a.at c.loop-i.i (omega arith) (omega arith) c.loop-i.invariant refl
 
 pub returns : goal.returns
 returns c =
     let a = c.args in
-    let filled = c.fill.ensures.after (λ y h. h) ∙ ap (λ k. replicate k a.z) (cut_length a.dst.now a.at a.n c.requires) in
-    put-pasted a.dst.now a.at _ (replicate a.n a.z) filled (omega (arith, length-replicate a.n a.z))
+    laid_done _ _ _ _ c.loop-i.invariant (omega arith) ∙ ap (pasted a.dst.now a.at) (joined_one a.n a.z)
