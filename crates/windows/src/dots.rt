@@ -1,33 +1,33 @@
 // Σq and Σqw of a window.
-ghost use Rattle.std.specs.Prelude.{◌≡◌, ◌+◌, ◌*◌, ◌≤◌, length, drop};
+ghost use Rattle.std.specs.Prelude.{◌≡◌, ◌+◌, ◌*◌, ◌≤◌, ◌<◌, ◌^◌, length, sum_by};
+ghost use Rattle.std.specs.List.{zip};
 ghost use Rattle.numbers.specs.Limits.{tensor_most};
 ghost use Rattle.numbers.specs.Total.{sum, dot as dot_of};
 
-use numbers::small::wide;
-
-// The product of two bytes.
-fn product(x: u8, y: u8) -> u32
-    ensures value { result ≡ x * y }
-    ensures bound { result ≤ 65025 }
+// Σqw of two slices of one length.
+fn block(q: &[u8], w: &[u8]) -> u32
+    requires pairs { length q.now ≡ length w.now }
+    requires few { length q.now ≤ tensor_most }
+    ensures value { result ≡ dot_of q.now w.now }
+    ensures bound { result ≤ 65025 * length q.now }
 {
-    wide(x) * wide(y)
+    q.iter()
+        .zip(w)
+        .map(|(x, y)| u32::from(*x) * u32::from(*y))
+        .sum()
 }
 
-// Σqw over the n places from i.
-fn dot_part(q: &[u8], w: &[u8], i: usize, n: usize) -> u32
-    requires pairs { length q.now ≡ length w.now }
-    requires within { i + n ≤ length q.now }
-    requires few { n ≤ tensor_most }
-    ensures value { result + dot_of (drop (i + n) q.now) (drop (i + n) w.now) ≡ dot_of (drop i q.now) (drop i w.now) }
-    ensures bound { result ≤ 65025 * n }
+// Σqw of blocks of one length.
+fn blocks<const N: usize>(q: &[[u8; N]], w: &[[u8; N]]) -> u32
+    requires few { N ≤ tensor_most }
+    requires fits { sum_by (λ p. dot_of p.0 p.1) (zip q.now w.now) < 2 ^ 32 }
+    ensures { result ≡ sum_by (λ p. dot_of p.0 p.1) (zip q.now w.now) }
 {
-    let mut s: u32 = 0;
-    let mut k = 0;
-    while k < n {
-        s += product(q[i + k], w[i + k]);
-        k += 1;
+    let mut sum = 0;
+    for (x, y) in q.iter().zip(w) {
+        sum += block(x, y);
     }
-    s
+    sum
 }
 
 // Σqw. Blocks of 32 and of 8 have a fixed length, which the compiler turns into packed multiply-adds.
@@ -37,30 +37,26 @@ pub fn dot(q: &[u8], w: &[u8]) -> u32
     ensures value { result ≡ dot_of q.now w.now }
     ensures bound { result ≤ 1065369600 }
 {
-    let mut s: u32 = 0;
-    let mut i = 0;
-    while i + 32 <= q.len() {
-        s += dot_part(q, w, i, 32);
-        i += 32;
-    }
-    while i + 8 <= q.len() {
-        s += dot_part(q, w, i, 8);
-        i += 8;
-    }
-    s + dot_part(q, w, i, q.len() - i)
+    // So that the compiler sees that both have one length.
+    let w = &w[..q.len()];
+    let (long_q, q) = q.as_chunks::<32>();
+    let (long_w, w) = w.as_chunks::<32>();
+    let (short_q, q) = q.as_chunks::<8>();
+    let (short_w, w) = w.as_chunks::<8>();
+    let long = blocks(long_q, long_w);
+    let short = blocks(short_q, short_w);
+    long + short + block(q, w)
 }
 
-// Σq.
+// Σq. A loop, since `map` and `sum` take a cycle longer, which shows at a small kernel.
 pub fn byte_total(q: &[u8]) -> u32
     requires { length q.now ≤ tensor_most }
     ensures value { result ≡ sum q.now }
     ensures bound { result ≤ 4177920 }
 {
-    let mut s: u32 = 0;
-    let mut i = 0;
-    while i < q.len() {
-        s += wide(q[i]);
-        i += 1;
+    let mut sum = 0;
+    for x in q {
+        sum += u32::from(*x);
     }
-    s
+    sum
 }

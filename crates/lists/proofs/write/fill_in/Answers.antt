@@ -7,29 +7,12 @@ use Rattle.lists.proofs.write.fill_in.Goals as goal
 pub loop-i-init : goal.loop-i-init
 loop-i-init c = laid_none _ _ _ _
 
-pub overflow_add-dst : goal.overflow_add-dst
-overflow_add-dst c = omega arith
-
-pub bounds-dst-at : goal.bounds-dst-at
-bounds-dst-at c = omega arith
-
-pub overflow_add-i : goal.overflow_add-i
-overflow_add-i c = omega arith
-
-pub loop-i-smaller : goal.loop-i-smaller
-loop-i-smaller c = omega arith
-
 pub loop-i-preserved : goal.loop-i-preserved
 loop-i-preserved c =
-    let l = c.before in
     let a = c.args in
     laid_store a.n (λ k. a.z) a.dst.now a.at c.loop-i.i (omega arith) (omega arith) c.loop-i.invariant refl
 
-pub shape_of-dst : goal.shape_of-dst
-shape_of-dst c = c.loop-i.invariant.same
-
 pub returns : goal.returns
 returns c =
-    let l = c.before in
     let a = c.args in
     laid_done _ _ _ _ c.loop-i.invariant (omega arith) ∙ ap (pasted a.dst.now a.at) (joined_one a.n a.z)
