@@ -7,6 +7,7 @@ ghost use Rattle.layers.specs.Add.{add_byte, add_row};
 ghost use Rattle.layers.specs.Asked.{AddReady, Placed};
 ghost use Rattle.layers.specs.Row.{tensor_at};
 
+use crate::source::Source;
 use crate::start::row_start;
 use numbers::addition::{offset_of, summed_of};
 use numbers::finish::finish;
@@ -28,27 +29,18 @@ fn add_byte(a: Add, z: u8, zr: u8, q: u8, r: u8) -> u8
     )
 }
 
-// Row i of an add of the tensors that stand in area from `from` and from `other`, to its place.
-pub fn add_row(
-    y: Layer,
-    a: Add,
-    z: u8,
-    zr: u8,
-    area: &mut [u8],
-    from: usize,
-    other: usize,
-    i: usize,
-)
+// Row i of an add of the tensors that stand in the area, to its place.
+pub fn add_row(y: Layer, a: Add, area: &mut [u8], first: Source, second: Source, i: usize)
     requires ready { AddReady y a }
-    requires first { Placed y (length area.old) from }
-    requires second { Placed y (length area.old) other }
+    requires first { Placed y (length area.old) first.from }
+    requires second { Placed y (length area.old) second.from }
     requires row { i < y.output.rows }
-    ensures { area.new ≡ pasted area.old (y.place + i * row_bytes y.output) (add_row a z zr (row_bytes y.output) (tensor_at area.old from y.input) (tensor_at area.old other y.input) i) }
+    ensures { area.new ≡ pasted area.old (y.place + i * row_bytes y.output) (add_row a first.zero second.zero (row_bytes y.output) (tensor_at area.old first.from y.input) (tensor_at area.old second.from y.input) i) }
 {
-    let first = row_start(from, y.input, i);
-    let second = row_start(other, y.input, i);
+    let q = row_start(first.from, y.input, i);
+    let r = row_start(second.from, y.input, i);
     let at = row_start(y.place, y.output, i);
     for k in 0..y.output.columns * y.output.channels {
-        area[at + k] = add_byte(a, z, zr, area[first + k], area[second + k]);
+        area[at + k] = add_byte(a, first.zero, second.zero, area[q + k], area[r + k]);
     }
 }

@@ -12,7 +12,9 @@ ghost use Rattle.layers.specs.Conv.{window_for, conv_outputs, conv_row};
 ghost use Rattle.layers.specs.Row.{tensor_at};
 
 use crate::outputs::{Outputs, outputs_for, put_outputs, put_within};
+use crate::source::Source;
 use crate::start::row_start;
+use crate::stored::Stored;
 use records::conv::Conv;
 use records::layer::Layer;
 use windows::window::{Window, gather};
@@ -46,8 +48,7 @@ fn conv_outputs(y: Layer, c: Conv, z: u8) -> Outputs
 fn conv_place(
     w: Window,
     o: Outputs,
-    file: &[u8],
-    sums: &[u32],
+    stored: Stored<'_>,
     area: &mut [u8],
     patch: &mut [u8],
     from: usize,
@@ -56,49 +57,46 @@ fn conv_place(
     q: usize,
 )
     requires small { SmallWindow w }
-    requires ready { OutputsReady o (window_bytes w) file.now sums.now }
+    requires ready { OutputsReady o (window_bytes w) stored.file.now stored.sums.now }
     requires tensor { from + size_of w ≤ length area.old }
     requires room { at + o.count ≤ length area.old }
     requires column { q ≤ w.columns + w.left }
     requires row { p ≤ 131072 }
     requires patch_room { window_bytes w ≤ length patch.old }
-    ensures { area.new ≡ pasted area.old at (outputs_of o file.now sums.now (window_of w (part area.old from (size_of w)) p q)) }
+    ensures { area.new ≡ pasted area.old at (outputs_of o stored.entry.file.now stored.entry.sums.now (window_of w (part area.old from (size_of w)) p q)) }
 {
     let n = w.height * w.width * w.channels;
     let size = w.rows * w.columns * w.channels;
     gather(w, &area[from..from + size], patch, p, q);
-    put_outputs(o, file, sums, &patch[..n], area, at);
+    put_outputs(o, stored, &patch[..n], area, at);
 }
 
 // Row i, place after place.
 fn gathered_row(
     y: Layer,
     c: Conv,
-    z: u8,
-    file: &[u8],
-    sums: &[u32],
+    stored: Stored<'_>,
     area: &mut [u8],
     patch: &mut [u8],
-    from: usize,
+    source: Source,
     i: usize,
 )
-    requires ready { ConvRowReady y c file.now sums.now (length area.old) from i }
+    requires ready { ConvRowReady y c stored.file.now stored.sums.now (length area.old) source.from i }
     requires patch_room { window_most ≤ length patch.old }
-    ensures { area.new ≡ pasted area.old (y.place + i * row_bytes y.output) (conv_row y c z file.now sums.now (tensor_at area.old from y.input) i) }
+    ensures { area.new ≡ pasted area.old (y.place + i * row_bytes y.output) (conv_row y c source.zero stored.entry.file.now stored.entry.sums.now (tensor_at area.old source.from y.input) i) }
 {
-    let w = window_for(y, c, z);
-    let o = conv_outputs(y, c, z);
+    let w = window_for(y, c, source.zero);
+    let o = conv_outputs(y, c, source.zero);
     let stride = c.frame.stride as usize;
     let at = row_start(y.place, y.output, i);
     for j in 0..y.output.columns {
         conv_place(
             w,
             o,
-            file,
-            sums,
+            stored,
             area,
             patch,
-            from,
+            source.from,
             at + j * o.count,
             i * stride,
             j * stride,
@@ -107,48 +105,37 @@ fn gathered_row(
 }
 
 // Row i of a kernel of one cell with stride 1 and no padding: every window stands in the area as it is.
-fn plain_row(
-    y: Layer,
-    c: Conv,
-    z: u8,
-    file: &[u8],
-    sums: &[u32],
-    area: &mut [u8],
-    from: usize,
-    i: usize,
-)
-    requires ready { ConvRowReady y c file.now sums.now (length area.old) from i }
+fn plain_row(y: Layer, c: Conv, stored: Stored<'_>, area: &mut [u8], source: Source, i: usize)
+    requires ready { ConvRowReady y c stored.file.now stored.sums.now (length area.old) source.from i }
     requires plain { (c.frame.height ≡ 1) × (c.frame.width ≡ 1) × (c.frame.stride ≡ 1) }
-    ensures { area.new ≡ pasted area.old (y.place + i * row_bytes y.output) (conv_row y c z file.now sums.now (tensor_at area.old from y.input) i) }
+    ensures { area.new ≡ pasted area.old (y.place + i * row_bytes y.output) (conv_row y c source.zero stored.entry.file.now stored.entry.sums.now (tensor_at area.old source.from y.input) i) }
 {
-    let o = conv_outputs(y, c, z);
+    let o = conv_outputs(y, c, source.zero);
     let n = y.input.channels;
-    let start = row_start(from, y.input, i);
+    let start = row_start(source.from, y.input, i);
     let at = row_start(y.place, y.output, i);
     for j in 0..y.output.columns {
-        put_within(o, file, sums, area, start + j * n, n, at + j * o.count);
+        put_within(o, stored, area, start + j * n, n, at + j * o.count);
     }
 }
 
-// Row i of a convolution of the tensor that stands in area from `from`, to its place.
+// Row i of a convolution of the tensor that stands in the area, to its place.
 pub fn conv_row(
     y: Layer,
     c: Conv,
-    z: u8,
-    file: &[u8],
-    sums: &[u32],
+    stored: Stored<'_>,
     area: &mut [u8],
     patch: &mut [u8],
-    from: usize,
+    source: Source,
     i: usize,
 )
-    requires ready { ConvRowReady y c file.now sums.now (length area.old) from i }
+    requires ready { ConvRowReady y c stored.file.now stored.sums.now (length area.old) source.from i }
     requires patch_room { window_most ≤ length patch.old }
-    ensures { area.new ≡ pasted area.old (y.place + i * row_bytes y.output) (conv_row y c z file.now sums.now (tensor_at area.old from y.input) i) }
+    ensures { area.new ≡ pasted area.old (y.place + i * row_bytes y.output) (conv_row y c source.zero stored.entry.file.now stored.entry.sums.now (tensor_at area.old source.from y.input) i) }
 {
     if c.frame.height == 1 && c.frame.width == 1 && c.frame.stride == 1 {
-        plain_row(y, c, z, file, sums, area, from, i);
+        plain_row(y, c, stored, area, source, i);
     } else {
-        gathered_row(y, c, z, file, sums, area, patch, from, i);
+        gathered_row(y, c, stored, area, patch, source, i);
     }
 }

@@ -6,5 +6,7 @@ pub mod conv;
 pub mod full;
 pub mod outputs;
 pub mod row;
+pub mod source;
 pub mod start;
+pub mod stored;
 pub mod sums;

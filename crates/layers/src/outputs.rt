@@ -8,6 +8,7 @@ ghost use Rattle.layers.specs.Asked.{OutputsReady};
 ghost use Rattle.records.specs.Asked.{WeighingOk};
 ghost use Rattle.layers.specs.Outputs.{outputs_for, byte_by, output_of, outputs_of};
 
+use crate::stored::Stored;
 use fields::bytes::i32_at;
 use numbers::finish::finish;
 use numbers::rescale::rescale;
@@ -64,51 +65,50 @@ fn output(o: Outputs, q: &[u8], w: &[u8], bytes: u32, bias: i32, stored: u32) ->
 }
 
 // Output f at the window q, whose byte total is worked out once for all outputs.
-fn output_at(o: Outputs, file: &[u8], sums: &[u32], q: &[u8], bytes: u32, f: usize) -> u8
-    requires ready { OutputsReady o (length q.now) file.now sums.now }
+fn output_at(o: Outputs, stored: Stored<'_>, q: &[u8], bytes: u32, f: usize) -> u8
+    requires ready { OutputsReady o (length q.now) stored.file.now stored.sums.now }
     requires one { f < o.count }
     requires total { bytes ≡ sum q.now }
-    ensures { result ≡ output_of o file.now sums.now q.now f }
+    ensures { result ≡ output_of o stored.entry.file.now stored.entry.sums.now q.now f }
 {
     let n = q.len();
     let first = o.weights + f * n;
-    let bias = i32_at(file, o.biases + 4 * f);
-    output(o, q, &file[first..first + n], bytes, bias, sums[o.sums + f])
+    let bias = i32_at(stored.file, o.biases + 4 * f);
+    output(
+        o,
+        q,
+        &stored.file[first..first + n],
+        bytes,
+        bias,
+        stored.sums[o.sums + f],
+    )
 }
 
 // The outputs at the window q, to area from at.
-pub fn put_outputs(o: Outputs, file: &[u8], sums: &[u32], q: &[u8], area: &mut [u8], at: usize)
-    requires ready { OutputsReady o (length q.now) file.now sums.now }
+pub fn put_outputs(o: Outputs, stored: Stored<'_>, q: &[u8], area: &mut [u8], at: usize)
+    requires ready { OutputsReady o (length q.now) stored.file.now stored.sums.now }
     requires room { at + o.count ≤ length area.old }
-    ensures { area.new ≡ pasted area.old at (outputs_of o file.now sums.now q.now) }
+    ensures { area.new ≡ pasted area.old at (outputs_of o stored.entry.file.now stored.entry.sums.now q.now) }
 {
     let bytes = byte_total(q);
     for (f, byte) in area[at..at + o.count].iter_mut().enumerate() {
-        *byte = output_at(o, file, sums, q, bytes, f);
+        *byte = output_at(o, stored, q, bytes, f);
     }
 }
 
 // The same at a window that stands in the area itself, n bytes from `from`, so that nothing is gathered.
-pub fn put_within(
-    o: Outputs,
-    file: &[u8],
-    sums: &[u32],
-    area: &mut [u8],
-    from: usize,
-    n: usize,
-    at: usize,
-)
-    requires ready { OutputsReady o n file.now sums.now }
+pub fn put_within(o: Outputs, stored: Stored<'_>, area: &mut [u8], from: usize, n: usize, at: usize)
+    requires ready { OutputsReady o n stored.file.now stored.sums.now }
     requires apart { Apart from n at o.count }
     requires window { from + n ≤ length area.old }
     requires room { at + o.count ≤ length area.old }
-    ensures { area.new ≡ pasted area.old at (outputs_of o file.now sums.now (part area.old from n)) }
+    ensures { area.new ≡ pasted area.old at (outputs_of o stored.entry.file.now stored.entry.sums.now (part area.old from n)) }
 {
     if from + n <= at {
         let (before, rest) = area.split_at_mut(at);
-        put_outputs(o, file, sums, &before[from..from + n], rest, 0);
+        put_outputs(o, stored, &before[from..from + n], rest, 0);
     } else {
         let (before, rest) = area.split_at_mut(from);
-        put_outputs(o, file, sums, &rest[..n], before, at);
+        put_outputs(o, stored, &rest[..n], before, at);
     }
 }

@@ -9,55 +9,50 @@ ghost use Rattle.layers.specs.Row.{row_of, tensor_at};
 use crate::add::add_row;
 use crate::conv::conv_row;
 use crate::full::full_row;
+use crate::source::Source;
+use crate::stored::Stored;
 use records::layer::{Kind, Layer};
+use std::ops::Range;
 
-// Row i of the layer y, of the tensor that stands in area from `from`, of zero-point z, and, where y is an add, of the
-// one from `other`, of zero-point zr. The patch is room for one window.
+// Row i of the layer y, of the first tensor and, where y is an add, of the second. The patch is room for one window.
 pub fn put_row(
     y: Layer,
-    z: u8,
-    zr: u8,
-    file: &[u8],
-    sums: &[u32],
+    stored: Stored<'_>,
     area: &mut [u8],
     patch: &mut [u8],
-    from: usize,
-    other: usize,
+    first: Source,
+    second: Source,
     i: usize,
 )
-    requires ready { Ready y file.now sums.now (length area.old) from other }
+    requires ready { Ready y stored.file.now stored.sums.now (length area.old) first.from second.from }
     requires row { i < y.output.rows }
     requires patch_room { window_most ≤ length patch.old }
-    ensures { area.new ≡ pasted area.old (y.place + i * row_bytes y.output) (row_of y z zr file.now sums.now (tensor_at area.old from y.input) (tensor_at area.old other y.input) i) }
+    ensures { area.new ≡ pasted area.old (y.place + i * row_bytes y.output) (row_of y first.zero second.zero stored.entry.file.now stored.entry.sums.now (tensor_at area.old first.from y.input) (tensor_at area.old second.from y.input) i) }
 {
     match y.kind {
-        Kind::Conv(c) => conv_row(y, c, z, file, sums, area, patch, from, i),
-        Kind::Full(f) => full_row(y, f, z, file, sums, area, from),
-        Kind::Add(a) => add_row(y, a, z, zr, area, from, other, i),
+        Kind::Conv(c) => conv_row(y, c, stored, area, patch, first, i),
+        Kind::Full(f) => full_row(y, f, stored, area, first),
+        Kind::Add(a) => add_row(y, a, area, first, second, i),
     }
 }
 
-// The rows from first up to end.
+// Those rows, one after another.
 pub fn put_rows(
     y: Layer,
-    z: u8,
-    zr: u8,
-    file: &[u8],
-    sums: &[u32],
+    stored: Stored<'_>,
     area: &mut [u8],
     patch: &mut [u8],
-    from: usize,
-    other: usize,
-    first: usize,
-    end: usize,
+    first: Source,
+    second: Source,
+    rows: Range<usize>,
 )
-    requires ready { Ready y file.now sums.now (length area.old) from other }
-    requires order { first ≤ end }
-    requires rows { end ≤ y.output.rows }
+    requires ready { Ready y stored.file.now stored.sums.now (length area.old) first.from second.from }
+    requires order { rows.start ≤ rows.end }
+    requires rows { rows.end ≤ y.output.rows }
     requires patch_room { window_most ≤ length patch.old }
-    ensures { area.new ≡ pasted area.old (y.place + first * row_bytes y.output) (joined (end - first) (λ k. row_of y z zr file.now sums.now (tensor_at area.old from y.input) (tensor_at area.old other y.input) (first + k))) }
+    ensures { area.new ≡ pasted area.old (y.place + rows.start * row_bytes y.output) (joined (rows.end - rows.start) (λ k. row_of y first.zero second.zero stored.entry.file.now stored.entry.sums.now (tensor_at area.old first.from y.input) (tensor_at area.old second.from y.input) (rows.start + k))) }
 {
-    for i in first..end {
-        put_row(y, z, zr, file, sums, area, patch, from, other, i);
+    for i in rows {
+        put_row(y, stored, area, patch, first, second, i);
     }
 }

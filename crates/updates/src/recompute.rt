@@ -1,7 +1,7 @@
 // The rows of the grown bands, recomputed layer after layer.
 ghost use Rattle.std.specs.Prelude.{◌≡◌, suc, ◌≤◌, ◌<◌, length};
 ghost use Rattle.numbers.specs.Asked.{window_most};
-ghost use Rattle.network.specs.Network.{tensor_of};
+ghost use Rattle.network.specs.Network.{tensor_of, place_of, zero_of};
 ghost use Rattle.fields.specs.Shape.{row_bytes};
 ghost use Rattle.bands.specs.State.{band_of};
 ghost use Rattle.bands.specs.Grow.{grow_one};
@@ -13,6 +13,8 @@ use bands::reach::grow_one;
 use bands::state::{State, band_of};
 use checks::tensors::link_of;
 use layers::row::put_rows;
+use layers::source::Source;
+use layers::stored::Stored;
 use network::net::Network;
 use numbers::limits::WINDOW_MOST;
 
@@ -21,6 +23,18 @@ use numbers::limits::WINDOW_MOST;
 struct Step {
     state: State,
     count: u32,
+}
+
+// Tensor t as an input.
+fn source(n: &Network, t: usize) -> Source
+    requires { t ≤ 16 }
+    ensures from { result.from ≡ place_of n.now t }
+    ensures zero { result.zero ≡ zero_of n.now t }
+{
+    Source {
+        from: n.place(t),
+        zero: n.zero_point(t),
+    }
 }
 
 // One layer's step: its band grows, and the rows in it are recomputed.
@@ -48,16 +62,12 @@ fn recompute_layer(
     let end = band.end as usize;
     put_rows(
         y,
-        n.zero_point(m),
-        n.zero_point(link.other),
-        file,
-        sums,
+        Stored { file, sums },
         &mut area[..n.area],
         patch,
-        n.place(m),
-        n.place(link.other),
-        first,
-        end,
+        source(n, m),
+        source(n, link.other),
+        first..end,
     );
     Step {
         state,

@@ -8,4 +8,4 @@ use Rattle.layers.proofs.add.add_row.Given as goal
 
 abbrev pub invariant-loop-k : goal.invariant-loop-k
 invariant-loop-k l =
-    Laid l.k-end (λ j. add_byte l.a l.z l.zr (get_or l.initial.area (l.first + j) 0) (get_or l.initial.area (l.second + j) 0) ∷ []) l.initial.area l.at l.area l.k
+    Laid l.k-end (λ j. add_byte l.a l.first.zero l.second.zero (get_or l.initial.area (l.q + j) 0) (get_or l.initial.area (l.r + j) 0) ∷ []) l.initial.area l.at l.area l.k

@@ -11,5 +11,5 @@ pub returns : goal.returns
 returns c =
     let a = c.args in
     c.put_outputs.ensures ∙
-    ap (λ (q : List ℕ). pasted a.area.now a.at (outputs_of a.o a.file.now a.sums.now q))
+    ap (λ (q : List ℕ). pasted a.area.now a.at (outputs_of a.o a.stored.file.now a.stored.sums.now q))
     (patch_is a.w a.area.now a.patch.now a.from a.p a.q c.requires.tensor c.gather.ensures)

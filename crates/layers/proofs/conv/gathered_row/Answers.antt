@@ -34,7 +34,7 @@ conv_place-requires c =
     room c.loop-j.j a.y.output.columns c.conv_outputs-o.result.count c.row_start-at.result refl c.loop-j-test.true
     (inside (goal.at.conv_place-requires c).After-row_start-at) in
     let r =
-    place-ready a.y a.c h.ready p.input a.z a.i c.loop-j.j a.from _
+    place-ready a.y a.c h.ready p.input a.source.zero a.i c.loop-j.j a.source.from _
     c.window_for-w.ensures c.conv_outputs-o.ensures h.row c.loop-j-test.true
     (omega (arith, p.input-in, v.laid.same)) (omega (arith, p.within, next, v.laid.same)) (omega (arith, v.patch, c.requires.patch_room)) in
     record { small = r.0; ready = r.1; tensor = r.2; room = r.3; column = r.4; row = r.5; patch_room = r.6 }
@@ -50,9 +50,9 @@ loop-j-preserved c =
     let p = c.requires.ready.placed in
     let to = c.row_start-at in
     let place = c.conv_place in
-    let tensor : size_of w.result ≡ bytes_of y.input = size_is y a.c a.z w.ensures in record {
+    let tensor : size_of w.result ≡ bytes_of y.input = size_is y a.c a.source.zero w.ensures in record {
       laid =
-          place_turn w.result o.result a.file.now a.sums.now a.area.now y.output.columns a.from to.result
+          place_turn w.result o.result a.stored.file.now a.stored.sums.now a.area.now y.output.columns a.source.from to.result
           (a.i * a.c.frame.stride) a.c.frame.stride c.loop-j.j
           (apart_within (bytes_of y.input) (bytes_of y.output) _ _ p.apart (omega arith) in_output (omega arith) (omega arith))
           (omega (arith, p.within, in_output)) c.loop-j-test.true v.laid place.ensures place.auto.area;
@@ -68,5 +68,5 @@ shape_of-patch c = c.loop-j.invariant.patch
 pub returns : goal.returns
 returns c =
     let a = c.args in
-    conv-done a.y a.c a.z a.file.now a.sums.now a.area.now a.from a.i
+    conv-done a.y a.c a.source.zero a.stored.file.now a.stored.sums.now a.area.now a.source.from a.i
     c.window_for-w.ensures c.conv_outputs-o.ensures c.row_start-at.ensures.value (laid_done _ _ _ _ c.loop-j.invariant.laid (omega arith))

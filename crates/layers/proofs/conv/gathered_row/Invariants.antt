@@ -11,6 +11,6 @@ use Rattle.layers.proofs.conv.gathered_row.Given as goal
 
 abbrev pub invariant-loop-j : goal.invariant-loop-j
 invariant-loop-j l = record {
-  laid : Laid l.j-end (λ k. outputs_of l.o l.file l.sums (window_of l.w (part l.initial.area l.from (size_of l.w)) (l.i * l.stride) (k * l.stride))) l.initial.area l.at l.area l.j;
+  laid : Laid l.j-end (λ k. outputs_of l.o l.stored.file.now l.stored.sums.now (window_of l.w (part l.initial.area l.source.from (size_of l.w)) (l.i * l.stride) (k * l.stride))) l.initial.area l.at l.area l.j;
   patch : length l.patch ≡ length l.initial.patch;
 }

@@ -20,7 +20,7 @@ columns c =
 -- the windows of the row stand in the input
 inside :
     (c : After-row_start-at) →
-    c.row_start-start.result + c.args.y.output.columns * c.args.y.input.channels ≤ c.args.from + bytes_of c.args.y.input
+    c.row_start-start.result + c.args.y.output.columns * c.args.y.input.channels ≤ c.args.source.from + bytes_of c.args.y.input
 inside c = rw (columns (goal.at.After-row_start-at c).Start) c.row_start-start.ensures.within
 
 -- the places of the row stand in the output
@@ -52,7 +52,7 @@ put_within-requires c =
     let window = room j y.output.columns y.input.channels c.row_start-start.result refl c.loop-j-test.true (inside at) in
     let place = room j y.output.columns c.conv_outputs-o.result.count c.row_start-at.result refl c.loop-j-test.true (outside at) in
     record {
-      ready = plain_ready y a.c c.requires.ready.ready a.z c.requires.plain.0 c.requires.plain.1 c.conv_outputs-o.ensures;
+      ready = plain_ready y a.c c.requires.ready.ready a.source.zero c.requires.plain.0 c.requires.plain.1 c.conv_outputs-o.ensures;
       apart = apart_within (bytes_of y.input) (bytes_of y.output) _ _ p.apart (omega arith) place (omega arith) window;
       window = omega (arith, p.input-in, window, c.loop-j.invariant.same);
       room = omega (arith, p.within, place, c.loop-j.invariant.same);
@@ -64,7 +64,7 @@ loop-j-preserved c =
     let a = c.args in
     let y = a.y in
     let p = c.requires.ready.placed in
-    plain_turn c.conv_outputs-o.result a.file.now a.sums.now a.area.now y.output.columns y.input.channels
+    plain_turn c.conv_outputs-o.result a.stored.file.now a.stored.sums.now a.area.now y.output.columns y.input.channels
     c.row_start-start.result c.row_start-at.result c.loop-j.j
     (apart_within (bytes_of y.input) (bytes_of y.output) _ _ p.apart (omega arith) (outside at) (omega arith) (inside at))
     (omega (arith, p.within, outside at)) c.loop-j-test.true c.loop-j.invariant c.put_within.ensures c.put_within.auto.area
@@ -73,6 +73,6 @@ pub returns : goal.returns
 returns c =
     let a = c.args in
     let h = c.requires.ready in
-    plain_done a.y a.c a.z a.file.now a.sums.now a.area.now a.from a.i
+    plain_done a.y a.c a.source.zero a.stored.file.now a.stored.sums.now a.area.now a.source.from a.i
     h.ready h.placed.input h.row c.requires.plain c.conv_outputs-o.ensures
     c.row_start-start.ensures.value c.row_start-at.ensures.value (laid_done _ _ _ _ c.loop-j.invariant (omega arith))

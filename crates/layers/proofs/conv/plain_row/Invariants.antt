@@ -7,4 +7,4 @@ use Rattle.layers.proofs.conv.plain_row.Given as goal
 
 abbrev pub invariant-loop-j : goal.invariant-loop-j
 invariant-loop-j l =
-    Laid l.j-end (λ k. outputs_of l.o l.file l.sums (part l.initial.area (l.start + k * l.n) l.n)) l.initial.area l.at l.area l.j
+    Laid l.j-end (λ k. outputs_of l.o l.stored.file.now l.stored.sums.now (part l.initial.area (l.start + k * l.n) l.n)) l.initial.area l.at l.area l.j

@@ -15,5 +15,5 @@ returns c =
     let a = c.args in
     let q = a.q.now in
     let bias = to_z-of_z w32 _ (sfits_of c.i32_at-bias.type_inv) ∙ c.i32_at-bias.ensures in
-    output-is a.o a.file.now a.sums.now q a.f bias
-    (cut_is a.file.now (a.o.weights + a.f * length q) (length q)) c.output.ensures
+    output-is a.o a.stored.file.now a.stored.sums.now q a.f bias
+    (cut_is a.stored.file.now (a.o.weights + a.f * length q) (length q)) c.output.ensures

@@ -7,5 +7,5 @@ pub returns : goal.returns
 unfolding outputs_of
 returns c =
     let a = c.args in
-    filled a.area.now 0 a.at a.o.count (output_of a.o a.file.now a.sums.now a.q.now) _
+    filled a.area.now 0 a.at a.o.count (output_of a.o a.stored.file.now a.stored.sums.now a.q.now) _
     c.requires.room c.loop-f.auto.byte-items (λ k g. c.loop-f.invariant k (omega arith))

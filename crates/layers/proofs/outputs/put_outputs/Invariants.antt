@@ -6,4 +6,4 @@ use Rattle.layers.specs.Outputs.{output_of}
 use Rattle.layers.proofs.outputs.put_outputs.Given as goal
 
 abbrev pub invariant-loop-f : goal.invariant-loop-f
-invariant-loop-f l = (k : ℕ) → k < l.f → get_or l.byte-items k 0 ≡ output_of l.o l.file l.sums l.q k
+invariant-loop-f l = (k : ℕ) → k < l.f → get_or l.byte-items k 0 ≡ output_of l.o l.stored.file.now l.stored.sums.now l.q k

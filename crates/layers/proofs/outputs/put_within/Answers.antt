@@ -22,4 +22,4 @@ returns-else-from-n c =
     let d = a.area.now in
     let put = c.put_outputs-else-from-n.ensures in
     let s = c.split_at_mut-before-else-from-n.ensures in
-    rw (put, s.front, s.back) (pasted_front d a.from a.at _ (omega (arith, outputs_length a.o a.file.now a.sums.now (part d a.from a.n))))
+    rw (put, s.front, s.back) (pasted_front d a.from a.at _ (omega (arith, outputs_length a.o a.stored.file.now a.stored.sums.now (part d a.from a.n))))

@@ -27,7 +27,7 @@ fits c =
 pub put_rows-requires : goal.put_rows-requires
 put_rows-requires c =
     let f = fits (goal.at.put_rows-requires c).After-band_of-band in
-    record { ready = ready-now c.args.area.now c.args.m c.requires.can_recompute c.requires.m_lt_count.0 c.layer-y.ensures c.link_of-link.ensures c.place.ensures c.place-2.ensures; order = omega (arith, f); rows = omega (arith, f); patch_room = c.requires.m_lt_count.1 }
+    record { ready = ready-now c.args.area.now c.args.m c.requires.can_recompute c.requires.m_lt_count.0 c.layer-y.ensures c.link_of-link.ensures c.source.ensures.from c.source-2.ensures.from; order = omega (arith, f); rows = omega (arith, f); patch_room = c.requires.m_lt_count.1 }
 
 pub overflow_sub-result : goal.overflow_sub-result
 overflow_sub-result c = omega (arith, fits (goal.at.overflow_sub-result c).After-band_of-band)
@@ -58,5 +58,5 @@ returns-clause-count_value c =
 pub returns-clause-area_after : goal.returns-clause-area_after
 returns-clause-area_after c =
     area-now c.args.area.now c.args.m c.requires.can_recompute c.requires.m_lt_count.0 c.args.s c.requires.bands_within
-    c.link_of-link.ensures c.grow_one-state.ensures c.band_of-band.ensures c.layer-y.ensures c.zero_point.ensures
-    c.zero_point-2.ensures c.place.ensures c.place-2.ensures c.put_rows.ensures
+    c.link_of-link.ensures c.grow_one-state.ensures c.band_of-band.ensures c.layer-y.ensures c.source.ensures.zero
+    c.source-2.ensures.zero c.source.ensures.from c.source-2.ensures.from c.put_rows.ensures
