@@ -28,7 +28,8 @@ use Rattle.records.proofs.Answers.{Answered}
 use Rattle.network.specs.Network.{blank_shape, blank_layer, empty_network, with_layer, tensor_of}
 use Rattle.network.specs.Head.{picture_at, head_fault}
 use Rattle.network.specs.Asked.{Next, CanStep}
-use Rattle.network.specs.Decode.{Progress, Decoded, read_layer, stopped, started, start_of, pushed, step_read, step_from, step_of, steps_of, end_fault, decoded_as, decoded_to, finish_of, whole_of, decode_of}
+use Rattle.network.specs.Decode.{Progress, Decoded, read_layer, stopped, started, start_of, pushed, step_read, step_from, step_of, steps_of, end_fault, decoded_as, finish_of, whole_of, decode_of}
+use Rattle.network.specs.Answer.{decoded_to}
 use Rattle.network.specs.declared.net.Network.{Network}
 use Rattle.network.proofs.Marked.{Grown, read-grown}
 use Rattle.network.proofs.Growth.{Sofar, pushed_extends, sofar-more}

@@ -1,9 +1,7 @@
 -- The whole file: its length, the head, the layers in order, and that nothing follows.
 -- Assumes nothing.
-use Rattle.std.specs.Prelude.{ℕ, zero, suc, ◌+◌, min, cond, List, [], ◌∷◌, leb, eqb, length, Result, Ok, Err}
+use Rattle.std.specs.Prelude.{ℕ, zero, suc, ◌+◌, min, cond, List, [], ◌∷◌, leb, eqb, length}
 use Rattle.numbers.specs.Limits.{file_most}
-use Rattle.refusals.specs.Refusal.{refusal_number}
-use Rattle.refusals.specs.declared.refusal.Refusal.{Refusal}
 use Rattle.fields.specs.Faults.{unless, first_fault}
 use Rattle.fields.specs.Bytes.{byte_at}
 use Rattle.fields.specs.Shape.{bytes_of}
@@ -60,11 +58,6 @@ started (suc fault) picture z count = stopped (suc fault)
 unfoldable pub start_of : List ℕ → Progress
 start_of s = started (head_fault s) (picture_at s) (byte_at s 7) (byte_at s 8)
 
--- the same as the code answers it: the network that the head begins, or the refusal
-abbrev pub started_as : Result Network Refusal → Progress
-started_as (Ok n) = record { fault = 0; at = 10; made = 0; network = n }
-started_as (Err refusal) = stopped (refusal_number refusal)
-
 -- one more layer
 unfoldable pub pushed : Progress → Layer → ℕ → Progress
 pushed p l next = record {
@@ -98,11 +91,6 @@ end_fault s at = unless (eqb at (length s)) 1
 unfoldable pub decoded_as : ℕ → Progress → Decoded
 decoded_as zero p = record { fault = 0; network = p.network }
 decoded_as (suc n) p = record { fault = suc n; network = empty_network blank_shape 0 0 0 }
-
--- the answer as the code gives it
-abbrev pub decoded_to : Result Network Refusal → Decoded
-decoded_to (Ok n) = record { fault = 0; network = n }
-decoded_to (Err refusal) = record { fault = refusal_number refusal; network = empty_network blank_shape 0 0 0 }
 
 abbrev pub finish_of : List ℕ → Progress → Decoded
 finish_of s p = decoded_as (first_fault (p.fault ∷ end_fault s p.at ∷ [])) p

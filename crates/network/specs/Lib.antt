@@ -5,3 +5,4 @@ pub mod Decode
 pub mod Replace
 pub mod Taken
 pub mod Asked
+pub mod Answer

@@ -3,9 +3,10 @@ ghost use Rattle.std.specs.Prelude.{◌≡◌, ◌≤◌, ◌<◌, length};
 ghost use Rattle.numbers.specs.Limits.{area_most};
 ghost use Rattle.refusals.specs.Refusal.{fault_of};
 ghost use Rattle.fields.specs.Asked.{GoodShape};
-ghost use Rattle.records.specs.Reader.{read_of};
+ghost use Rattle.records.specs.Answer.{read_of};
 ghost use Rattle.network.specs.Network.{tensor_of};
-ghost use Rattle.network.specs.Decode.{read_layer, start_of, end_fault, decode_of, started_as, decoded_to};
+ghost use Rattle.network.specs.Decode.{read_layer, start_of, end_fault, decode_of};
+ghost use Rattle.network.specs.Answer.{started_as, decoded_to};
 
 use crate::head::{head_fault, picture_at};
 use crate::net::Network;

@@ -8,3 +8,4 @@ pub mod Add
 pub mod Layer
 pub mod Reader
 pub mod Asked
+pub mod Answer

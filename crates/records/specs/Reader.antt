@@ -1,6 +1,6 @@
 -- One record read: its own faults, the faults of its shape, and what is stored after its fixed part. The first fault met decides.
 -- Assumes nothing.
-use Rattle.std.specs.Prelude.{ℕ, zero, suc, ◌+◌, ◌&&◌, List, [], ◌∷◌, leb, Result, Ok, Err}
+use Rattle.std.specs.Prelude.{ℕ, zero, suc, ◌+◌, ◌&&◌, List, [], ◌∷◌, leb}
 use Rattle.fields.specs.Bytes.{byte_at}
 use Rattle.fields.specs.Faults.{unless, first_fault, spare_fault, cut_fault}
 use Rattle.fields.specs.Shape.{size_fault, same_shape}
@@ -18,8 +18,6 @@ use Rattle.records.specs.declared.layer.Layer.{Layer}
 use Rattle.records.specs.declared.mark.Mark.{Mark}
 use Rattle.records.specs.declared.mark.Mark.TheVariants.{CV, FU, AD, Other}
 use Rattle.records.specs.declared.reader.Before.{Before}
-use Rattle.refusals.specs.Refusal.{refusal_number}
-use Rattle.refusals.specs.declared.refusal.Refusal.{Refusal}
 
 -- the parameters that the record at a place holds, by its mark; an unknown mark is refused, whatever stands here
 abbrev pub kind_at : Mark → List ℕ → ℕ → Kind
@@ -53,11 +51,6 @@ stored_after s y = stored_fault s (biases_at y) (sums_of y.kind) (terms_of y.kin
 pub data Read : Type 0 where
   Refused : ℕ → Read
   Found : Layer → ℕ → Read
-
--- the same as the code answers it
-abbrev pub read_of : Result (Layer × ℕ) Refusal → Read
-read_of (Ok found) = Found found.0 found.1
-read_of (Err refusal) = Refused (refusal_number refusal)
 
 -- the layer and where the next record begins, unless there is a fault
 unfoldable pub answer : ℕ → Layer → ℕ → Read

@@ -6,7 +6,8 @@ ghost use Rattle.refusals.specs.Refusal.{fault_of};
 ghost use Rattle.records.specs.Mark.{fixed_len};
 ghost use Rattle.records.specs.Asked.{KindOk};
 ghost use Rattle.records.specs.Layer.{output_shape};
-ghost use Rattle.records.specs.Reader.{kind_at, own_fault, suit_fault, read_of, read_as, record_fault};
+ghost use Rattle.records.specs.Reader.{kind_at, own_fault, suit_fault, read_as, record_fault};
+ghost use Rattle.records.specs.Answer.{read_of};
 
 use crate::add::{add_at, add_fields};
 use crate::conv::{blank_conv, conv_at, conv_fields};

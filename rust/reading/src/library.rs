@@ -19,6 +19,8 @@ pub struct Item {
 pub struct Library {
     pub items: BTreeMap<Key, Item>,
     pub strays: Vec<String>,
+    /// The data type of each constructor.
+    constructors: BTreeMap<Key, Key>,
 }
 
 impl Library {
@@ -31,7 +33,16 @@ impl Library {
         for source in tree.code() {
             library.add_types(&source, tree);
         }
+        library.name_data();
         library
+    }
+
+    /// In what is used, also from another file, the name of a constructor stands for its type.
+    fn name_data(&mut self) {
+        for item in self.items.values_mut() {
+            let named = |key: Key| self.constructors.get(&key).cloned().unwrap_or(key);
+            item.uses = std::mem::take(&mut item.uses).into_iter().map(named).collect();
+        }
     }
 
     /// The keys of all definitions.
@@ -51,6 +62,8 @@ impl Library {
         }
         for definition in &parsed.definitions {
             let key = Key::new(source.path, &definition.name);
+            let made = names(definition).map(|name| (Key::new(source.path, name), key.clone()));
+            self.constructors.extend(made);
             self.add(key, definition.lines.len(), &definition.text(), &scope);
         }
     }
