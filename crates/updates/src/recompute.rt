@@ -39,20 +39,19 @@ fn source(n: &Network, t: usize) -> Source
 
 // One layer's step: its band grows, and the rows in it are recomputed.
 fn recompute_layer(
-    file: &[u8],
     n: &Network,
-    sums: &[u32],
+    stored: Stored<'_>,
     area: &mut [u8],
     patch: &mut [u8],
     s: State,
     m: usize,
 ) -> Step
-    requires can_recompute { CanRecompute file.now n.now sums.now (length area.old) }
+    requires can_recompute { CanRecompute stored.file.now n.now stored.sums.now (length area.old) }
     requires bands_within { BandsWithin n.now s }
     requires m_lt_count { (m < n.now.count) × (window_most ≤ length patch.old) }
     ensures state_value { result.state ≡ grow_one s (link_of n.now m) m }
     ensures count_value { result.count ≡ bytes_in (band_of result.state (suc m)) (tensor_of n.now (suc m)).rows (row_bytes (tensor_of n.now (suc m))) }
-    ensures area_after { area.new ≡ redone n.now file.now sums.now m (band_of result.state (suc m)) area.old }
+    ensures area_after { area.new ≡ redone n.now stored.entry.file.now stored.entry.sums.now m (band_of result.state (suc m)) area.old }
 {
     let y = n.layer(m);
     let link = link_of(n, m);
@@ -62,7 +61,7 @@ fn recompute_layer(
     let end = band.end as usize;
     put_rows(
         y,
-        Stored { file, sums },
+        stored,
         &mut area[..n.area],
         patch,
         source(n, m),
@@ -82,11 +81,12 @@ pub fn recompute(file: &[u8], n: &Network, sums: &[u32], area: &mut [u8], s: Sta
     ensures value { result ≡ count_to n.now s n.now.count }
     ensures area_after { area.new ≡ updated_to n.now file.now sums.now s n.now.count area.old }
 {
+    let stored = Stored { file, sums };
     let mut patch = [0u8; WINDOW_MOST];
     let mut state = s;
     let mut count = 0;
     for m in 0..n.count {
-        let step = recompute_layer(file, n, sums, area, &mut patch, state, m);
+        let step = recompute_layer(n, stored, area, &mut patch, state, m);
         state = step.state;
         count += step.count;
     }
