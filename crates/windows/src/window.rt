@@ -55,19 +55,21 @@ fn put_strip(w: Window, t: &[u8], patch: &mut [u8], at: usize, p: usize, q: usiz
     requires room { at + w.width * w.channels ≤ length patch.old }
     ensures { patch.new ≡ pasted patch.old at (strip_of w t.now p q) }
 {
-    if p < w.top || w.rows <= p - w.top {
+    // Two tests, since one by `||` is slower.
+    if p < w.top {
+        fill_in(patch, at, w.width * w.channels, w.zero);
+        return;
+    }
+    if w.rows <= p - w.top {
         fill_in(patch, at, w.width * w.channels, w.zero);
         return;
     }
     let strip = strip_at(w, p - w.top, q);
+    let start = at + strip.lead;
+    let end = start + (strip.to - strip.from);
     fill_in(patch, at, strip.lead, w.zero);
-    copy_in(&t[strip.from..strip.to], patch, at + strip.lead);
-    fill_in(
-        patch,
-        at + strip.lead + (strip.to - strip.from),
-        strip.tail,
-        w.zero,
-    );
+    copy_in(&t[strip.from..strip.to], patch, start);
+    fill_in(patch, end, strip.tail, w.zero);
 }
 
 // The window from row p, column q of the padded tensor, to the front of patch.
@@ -80,7 +82,10 @@ pub fn gather(w: Window, t: &[u8], patch: &mut [u8], p: usize, q: usize)
     ensures { patch.new ≡ pasted patch.old 0 (window_of w t.now p q) }
 {
     let row = w.width * w.channels;
+    // Summed, since a product each turn is slower.
+    let mut at = 0;
     for a in 0..w.height {
-        put_strip(w, t, patch, a * row, p + a, q);
+        put_strip(w, t, patch, at, p + a, q);
+        at += row;
     }
 }

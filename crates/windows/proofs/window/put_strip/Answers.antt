@@ -1,21 +1,20 @@
 -- `windows::window::put_strip` meets its contract: a row of padding is one store, and `strip_stored` joins the three
 -- stores of any other.
-use mathlib.Core.Path.{◌≡◌}
-use mathlib.Core.Bool.{false}
 use native.Mathlib.Omega.{arith}
-use Rattle.windows.specs.Window.{is_real}
 use Rattle.windows.proofs.Windows.{side_before, side_after, strip_filled, strip_stored}
 use Rattle.windows.proofs.window.put_strip.Goals as goal
-use Rattle.windows.proofs.window.put_strip.Goals.{then-p-w-via-then-p-w, then-p-w-via-else-p-w+then-w-p}
 
 pub returns-then-p-w : goal.returns-then-p-w
 returns-then-p-w c =
     let a = c.args in
-    let off : is_real a.w.top a.w.rows a.p ≡ false = elim c.then-p-w.branch [
-      | then-p-w-via-then-p-w w ↦ side_before a.w.top a.w.rows a.p w.if-p-w.true
-      | then-p-w-via-else-p-w+then-w-p w ↦ side_after a.w.top a.w.rows a.p w.if-w-p.true
-    ] in
+    let off = side_before a.w.top a.w.rows a.p c.if-p-w.true in
     strip_filled a.w a.t.now a.patch.now a.at a.p a.q off c.fill_in.ensures
+
+pub returns-then-w-p : goal.returns-then-w-p
+returns-then-w-p c =
+    let a = c.args in
+    let off = side_after a.w.top a.w.rows a.p c.if-w-p.true in
+    strip_filled a.w a.t.now a.patch.now a.at a.p a.q off c.fill_in-then-w-p.ensures
 
 pub returns : goal.returns
 returns c =
