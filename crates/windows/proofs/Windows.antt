@@ -4,7 +4,7 @@ use mathlib.Core.Path.{◌≡◌, refl, sym, ap, ◌∙◌}
 use mathlib.Core.List.{List, ◌++◌}
 use mathlib.Core.Bool.{Bool, true, false, ◌&&◌, and-false, false≢true}
 use Prim.Native.Nat.{ℕ, ◌+◌, ◌*◌, ◌-◌, ◌≤◌, ◌<◌, min}
-use native.Mathlib.Nat.{mul-le-mul_left, mul-le-mul_right, add_assoc}
+use native.Mathlib.Nat.{mul-le-mul_right, add_assoc}
 use native.Mathlib.Omega.{arith}
 use lib.ListN.{length, replicate, length-replicate, length-append}
 use borrow.Author.Tests.{leb-true, ltb-true, lt-ltb, le-ltb, le-leb, lt-leb}
@@ -260,39 +260,32 @@ strip_whole channels k q n columns from hk =
     whole : (u v z : ℕ) → u * channels + (from + v * channels) + z * channels ≡ (u + v + z) * channels + from
     whole u v z = omega arith
 
--- the cells before a row of the tensor
-pub line_bound : (w : Window) (r : ℕ) → SmallWindow w → r < w.rows → r * w.columns ≤ 16384
-line_bound w r s h =
-    omega (
-      arith,
-      mul-le-mul_right {m = r} {n = w.rows} w.columns (omega arith),
-      mul-le-mul_left (w.rows * w.columns) s.channels-some,
-    )
-
 -- a strip, from what the code computes
 pub strip_made :
-    (w : Window) (r q : ℕ) {first stop line skip from lead part tail : ℕ} →
+    (w : Window) (r q : ℕ) {first stop skip : ℕ} →
     SmallWindow w →
     r < w.rows →
     q ≤ w.columns + w.left →
     first ≡ w.left - q →
     stop ≡ stop_of w q →
-    line ≡ r * w.columns →
     skip ≡ q - w.left →
-    from ≡ (line + skip) * w.channels →
-    lead ≡ first * w.channels →
-    part ≡ (stop - first) * w.channels →
-    tail ≡ (w.width - stop) * w.channels →
-    Lies w r q (record { lead = lead; from = from; to = from + part; tail = tail })
-strip_made w r q {from = from} s hr hq e₁ e₂ e₃ e₄ e₅ e₆ e₇ e₈ =
-    record {
-      lead = cc;
-      start = cc;
-      part = cc;
-      within = rw (e₇, e₅, e₃, e₄, e₂, e₁) (strip_within w.rows w.columns w.channels r w.left q w.width hr hq);
-      tail = cc;
-      whole = cc (strip_whole w.channels w.left q w.width w.columns from s.left);
-    }
+    Lies w r q
+    (record {
+      lead = first * w.channels;
+      from = (r * w.columns + skip) * w.channels;
+      to = (r * w.columns + skip) * w.channels + (stop - first) * w.channels;
+      tail = (w.width - stop) * w.channels;
+    })
+strip_made w r q s hr hq e₁ e₂ e₃ =
+    rw (e₁, e₂, e₃)
+    (record {
+      lead = refl;
+      start = refl;
+      part = refl;
+      within = strip_within w.rows w.columns w.channels r w.left q w.width hr hq;
+      tail = refl;
+      whole = strip_whole w.channels w.left q w.width w.columns _ s.left;
+    })
 
 -- the one store of a row of padding
 pub strip_filled :
@@ -333,9 +326,8 @@ strip_stored w t d at p q k s e hq ha hp hr u e₁ e₂ e₃ =
 -- ---- a window
 
 -- there is room for one more row of a window
-pub row_room : (h n k a : ℕ) {row at : ℕ} → row ≡ n * k → at ≡ a * row → a < h → at + row ≤ h * n * k
-row_room h n k a er ea g =
-    omega (arith, ea ∙ ap (λ (m : ℕ). a * m) er, mul-le-mul_right {m = a + 1} {n = h} (n * k) (omega arith))
+pub row_room : (h n k a : ℕ) → a < h → a * (n * k) + n * k ≤ h * n * k
+row_room h n k a g = omega (arith, mul-le-mul_right {m = a + 1} {n = h} (n * k) (omega arith))
 
 module _ (w : Window) (t : List ℕ) (p q : ℕ) where
   -- a window has a byte for each term of its sum

@@ -5,7 +5,6 @@ ghost use Rattle.windows.specs.Asked.{SmallWindow, Lies, size_of, window_bytes};
 ghost use Rattle.windows.specs.Window.{strip_of, window_of};
 
 use lists::write::{copy_in, fill_in};
-use numbers::small::{less, smaller, times};
 
 // The input tensor's shape and zero-point, the kernel's sides, and the rows and columns of padding above and to the left.
 #[derive(Clone, Copy)]
@@ -37,14 +36,14 @@ fn strip_at(w: Window, r: usize, q: usize) -> Strip
     requires column { q ≤ w.columns + w.left }
     ensures { Lies w r q result }
 {
-    let first = less(w.left, q);
-    let stop = smaller(w.width, w.columns + w.left - q);
-    let from = times(times(r, w.columns) + less(q, w.left), w.channels);
+    let first = w.left.saturating_sub(q);
+    let stop = w.width.min(w.columns + w.left - q);
+    let from = (r * w.columns + q.saturating_sub(w.left)) * w.channels;
     Strip {
-        lead: times(first, w.channels),
+        lead: first * w.channels,
         from,
-        to: from + times(stop - first, w.channels),
-        tail: times(w.width - stop, w.channels),
+        to: from + (stop - first) * w.channels,
+        tail: (w.width - stop) * w.channels,
     }
 }
 
@@ -56,26 +55,21 @@ fn put_strip(w: Window, t: &[u8], patch: &mut [u8], at: usize, p: usize, q: usiz
     requires room { at + w.width * w.channels ≤ length patch.old }
     ensures { patch.new ≡ pasted patch.old at (strip_of w t.now p q) }
 {
-    let rows = w.rows;
-    let top = w.top;
-    let zero = w.zero;
-    let all = w.width * w.channels;
-    if p < top {
-        fill_in(patch, at, all, zero);
+    // Two tests, since one by `||` is slower.
+    if p < w.top {
+        fill_in(patch, at, w.width * w.channels, w.zero);
         return;
     }
-    let r = p - top;
-    if rows <= r {
-        fill_in(patch, at, all, zero);
+    if w.rows <= p - w.top {
+        fill_in(patch, at, w.width * w.channels, w.zero);
         return;
     }
-    let k = strip_at(w, r, q);
-    let lead = k.lead;
-    let from = k.from;
-    let to = k.to;
-    fill_in(patch, at, lead, zero);
-    copy_in(&t[from..to], patch, at + lead);
-    fill_in(patch, at + lead + (to - from), k.tail, zero);
+    let strip = strip_at(w, p - w.top, q);
+    let start = at + strip.lead;
+    let end = start + (strip.to - strip.from);
+    fill_in(patch, at, strip.lead, w.zero);
+    copy_in(&t[strip.from..strip.to], patch, start);
+    fill_in(patch, end, strip.tail, w.zero);
 }
 
 // The window from row p, column q of the padded tensor, to the front of patch.
@@ -87,13 +81,11 @@ pub fn gather(w: Window, t: &[u8], patch: &mut [u8], p: usize, q: usize)
     requires room { window_bytes w ≤ length patch.old }
     ensures { patch.new ≡ pasted patch.old 0 (window_of w t.now p q) }
 {
-    let height = w.height;
-    let row = times(w.width, w.channels);
+    let row = w.width * w.channels;
+    // Summed, since a product each turn is slower.
     let mut at = 0;
-    let mut a = 0;
-    while a < height {
+    for a in 0..w.height {
         put_strip(w, t, patch, at, p + a, q);
         at += row;
-        a += 1;
     }
 }
