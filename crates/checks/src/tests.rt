@@ -12,10 +12,9 @@ ghost use Rattle.checks.specs.Tests.{room_fault, layer_sums_fit, sums_fault, loa
 use crate::tensors::tensors_of;
 use bands::state::{State, clean, state_fault};
 use fields::faults::unless;
-use fields::shape::bytes_of;
 use network::file::decode;
 use network::net::Network;
-use records::layer::{Layer, sums_of, terms_of};
+use records::layer::Layer;
 use refusals::refusal::Refusal;
 
 // Test 4.
@@ -33,8 +32,8 @@ fn sums_fit(y: Layer, sums: &[u32]) -> bool
     requires kind_in_bounds { y.sums + sums_of y.kind ≤ length sums.now }
     ensures { result ≡ layer_sums_fit y sums.now }
 {
-    let most = 255 * terms_of(y) as u32;
-    let end = y.sums + sums_of(y.kind);
+    let most = 255 * y.terms() as u32;
+    let end = y.sums + y.kind.sums();
     sums[y.sums..end].iter().all(|&sum| sum <= most)
 }
 
@@ -103,7 +102,7 @@ pub fn slice_fault(n: &Network, len: usize) -> Result<(), Refusal>
     requires { (n.now.count ≤ 16) × GoodShape (tensor_of n.now n.now.count) }
     ensures { fault_of result ≡ slice_fault n.now len }
 {
-    unless(len == bytes_of(n.tensor(n.count)), Refusal::BadArguments)
+    unless(len == n.tensor(n.count).bytes(), Refusal::BadArguments)
 }
 
 // Test 8.

@@ -3,7 +3,6 @@ ghost use Rattle.std.specs.Prelude.{◌≡◌};
 ghost use Rattle.clew.specs.Sizes.{sizes_of};
 
 use crate::outcome::Sizes;
-use fields::shape::bytes_of;
 use network::file::decode;
 
 // Tests 1 to 3, and the sizes; all 0 where the file is refused.
@@ -13,10 +12,10 @@ pub fn sizes(file: &[u8]) -> Sizes
     match decode(file) {
         Ok(network) => Sizes {
             number: 0,
-            picture: bytes_of(network.picture),
+            picture: network.picture.bytes(),
             sums: network.store,
             area: network.area,
-            reading: bytes_of(network.tensor(network.count)),
+            reading: network.tensor(network.count).bytes(),
         },
         Err(refusal) => Sizes {
             number: refusal.number(),

@@ -17,21 +17,23 @@ pub struct Shape {
     pub channels: usize,
 }
 
-// The bytes of a tensor of that shape.
-pub fn bytes_of(s: Shape) -> usize
-    requires { SmallShape s }
-    ensures { result ≡ bytes_of s }
-{
-    s.rows * s.columns * s.channels
-}
+impl Shape {
+    // The bytes of a tensor of that shape.
+    pub fn bytes(self) -> usize
+        requires { SmallShape self }
+        ensures { result ≡ bytes_of self }
+    {
+        self.rows * self.columns * self.channels
+    }
 
-// One tensor has at most 16,384 bytes, all tensors together at most 65,536: total is the bytes of those before.
-#[tactic(auto, unfolding(crate::specs::Shape::size_fault))]
-pub fn size_fault(s: Shape, total: usize) -> Result<(), Refusal>
-    requires small_shape { SmallShape s }
-    requires total_le_area_most { total ≤ area_most }
-    ensures { fault_of result ≡ size_fault s total }
-{
-    let n = bytes_of(s);
-    unless(n <= TENSOR_MOST && total + n <= AREA_MOST, Refusal::Unfit)
+    // One tensor has at most 16,384 bytes, all tensors together at most 65,536: total is the bytes of those before.
+    #[tactic(auto, unfolding(crate::specs::Shape::size_fault))]
+    pub fn size_fault(self, total: usize) -> Result<(), Refusal>
+        requires small_shape { SmallShape self }
+        requires total_le_area_most { total ≤ area_most }
+        ensures { fault_of result ≡ size_fault self total }
+    {
+        let n = self.bytes();
+        unless(n <= TENSOR_MOST && total + n <= AREA_MOST, Refusal::Unfit)
+    }
 }

@@ -8,7 +8,6 @@ ghost use Rattle.layers.specs.Row.{tensor_at};
 use crate::outputs::{outputs_for, put_within};
 use crate::source::Source;
 use crate::stored::Stored;
-use fields::shape::bytes_of;
 use records::full::Full;
 use records::layer::Layer;
 
@@ -19,5 +18,5 @@ pub fn full_row(y: Layer, f: Full, stored: Stored<'_>, area: &mut [u8], source: 
     ensures { area.new ≡ pasted area.old y.place (full_row y f source.zero stored.entry.file.now stored.entry.sums.now (tensor_at area.old source.from y.input)) }
 {
     let o = outputs_for(y, f.outputs as usize, f.weighing, source.zero);
-    put_within(o, stored, area, source.from, bytes_of(y.input), y.place);
+    put_within(o, stored, area, source.from, y.input.bytes(), y.place);
 }

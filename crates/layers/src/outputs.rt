@@ -13,7 +13,7 @@ use fields::bytes::i32_at;
 use numbers::finish::finish;
 use numbers::rescale::rescale;
 use numbers::total::total;
-use records::layer::{Layer, biases_at, weights_at};
+use records::layer::Layer;
 use records::weighing::Weighing;
 use windows::dots::{byte_total, dot};
 
@@ -36,8 +36,8 @@ pub fn outputs_for(y: Layer, count: usize, weighing: Weighing, z: u8) -> Outputs
 {
     Outputs {
         count,
-        biases: biases_at(y),
-        weights: weights_at(y),
+        biases: y.biases_at(),
+        weights: y.weights_at(),
         sums: y.sums,
         z,
         weighing,

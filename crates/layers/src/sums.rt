@@ -6,7 +6,7 @@ ghost use Rattle.records.specs.Layer.{sums_of, terms_of, weights_at};
 ghost use Rattle.lists.specs.Lists.{pasted};
 ghost use Rattle.layers.specs.Sums.{layer_sums};
 
-use records::layer::{Layer, sums_of, terms_of, weights_at};
+use records::layer::Layer;
 use windows::dots::byte_total;
 
 // The true sums of a layer, to their places in the store.
@@ -18,9 +18,9 @@ pub fn put_sums(y: Layer, file: &[u8], sums: &mut [u32])
     requires room { y.sums + sums_of y.kind ≤ length sums.old }
     ensures { sums.new ≡ pasted sums.old y.sums (layer_sums y file.now) }
 {
-    let n = terms_of(y);
-    let weights = weights_at(y);
-    let count = sums_of(y.kind);
+    let n = y.terms();
+    let weights = y.weights_at();
+    let count = y.kind.sums();
     for (f, sum) in sums[y.sums..y.sums + count].iter_mut().enumerate() {
         let first = weights + f * n;
         *sum = byte_total(&file[first..first + n]);

@@ -9,10 +9,10 @@ ghost use Rattle.lines.specs.Listing.{line_of, word_of, table_of, refused_line, 
 ghost use Rattle.lines.specs.Text.{Adds};
 
 use crate::text::Text;
-use fields::shape::{Shape, bytes_of};
+use fields::shape::Shape;
 use network::file::decode;
 use network::net::Network;
-use records::layer::{Kind, sums_of};
+use records::layer::Kind;
 
 impl Text<'_> {
     // Adds the line of a tensor.
@@ -29,7 +29,7 @@ impl Text<'_> {
         self.column(shape.rows);
         self.column(shape.columns);
         self.column(shape.channels);
-        self.column(bytes_of(shape));
+        self.column(shape.bytes());
         self.column(sums);
         self.word(b"\n");
     }
@@ -41,7 +41,7 @@ impl Text<'_> {
         ensures written { Adds self.old (line_of tensor (word_of kind) shape (sums_of kind)) self.new }
         ensures within { self.new.length ≤ self.old.length + 45 }
     {
-        let sums = sums_of(kind);
+        let sums = kind.sums();
         match kind {
             Kind::Conv(_) => self.line(tensor, b"conv", shape, sums),
             Kind::Full(_) => self.line(tensor, b"full", shape, sums),

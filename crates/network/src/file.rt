@@ -11,10 +11,9 @@ ghost use Rattle.network.specs.Answer.{started_as, decoded_to};
 use crate::head::{head_fault, picture_at};
 use crate::net::Network;
 use fields::faults::{cut_fault, unless};
-use fields::shape::bytes_of;
 use numbers::limits::FILE_MOST;
-use records::layer::{Layer, other_of};
-use records::mark::{fixed_len, mark_at};
+use records::layer::Layer;
+use records::mark::mark_at;
 use records::reader::{Before, fit_record, kind_at, own_fault};
 use refusals::refusal::Refusal;
 
@@ -27,10 +26,10 @@ fn read_layer(s: &[u8], at: usize, n: &Network, made: usize) -> Result<(Layer, u
     ensures { read_of result ≡ read_layer s.now at n.now made }
 {
     let mark = mark_at(s, at);
-    cut_fault(s, at, fixed_len(mark))?;
+    cut_fault(s, at, mark.fixed_len())?;
     own_fault(mark, s, at)?;
     let kind = kind_at(mark, s, at);
-    let other = n.tensor(other_of(kind, made).min(made));
+    let other = n.tensor(kind.other(made).min(made));
     let b = Before {
         input: n.tensor(made),
         made,
@@ -47,7 +46,7 @@ fn start(s: &[u8]) -> Result<Network, Refusal>
 {
     head_fault(s)?;
     let picture = picture_at(s);
-    Ok(Network::empty(picture, s[7], s[8] as usize, bytes_of(picture)))
+    Ok(Network::empty(picture, s[7], s[8] as usize, picture.bytes()))
 }
 
 // Nothing follows the last layer.

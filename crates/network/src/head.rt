@@ -6,7 +6,7 @@ ghost use Rattle.network.specs.Head.{picture_at, head_fault};
 
 use fields::bytes::u16_at;
 use fields::faults::{cut_fault, spare_fault, unless, within};
-use fields::shape::{Shape, size_fault};
+use fields::shape::Shape;
 use records::mark::is_mark;
 use refusals::refusal::Refusal;
 
@@ -35,5 +35,5 @@ pub fn head_fault(s: &[u8]) -> Result<(), Refusal>
     within(1, 256, u32::from(u16_at(s, 4)))?;
     within(1, 64, u32::from(s[6]))?;
     within(1, 16, u32::from(s[8]))?;
-    size_fault(picture_at(s), 0)
+    picture_at(s).size_fault(0)
 }

@@ -6,9 +6,9 @@ ghost use Rattle.fields.specs.Asked.{GoodShape};
 ghost use Rattle.records.specs.Layer.{sums_of};
 ghost use Rattle.network.specs.Network.{blank_layer};
 
-use fields::shape::{Shape, bytes_of};
+use fields::shape::Shape;
 use records::conv::blank_conv;
-use records::layer::{Kind, Layer, sums_of};
+use records::layer::{Kind, Layer};
 use records::mark::Mark;
 
 // The picture's shape and zero-point, the number of layers, the layers, and the bytes of all tensors and the number of
@@ -48,8 +48,8 @@ impl Network {
         ensures { self.new ≡ with_layer self.old made layer }
     {
         self.layers[made] = layer;
-        self.area += bytes_of(layer.output);
-        self.store += sums_of(layer.kind);
+        self.area += layer.output.bytes();
+        self.store += layer.kind.sums();
     }
 
     // Layer m, counted from 0: it makes tensor m + 1.

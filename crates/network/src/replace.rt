@@ -6,8 +6,7 @@ ghost use Rattle.records.specs.Layer.{record_len};
 ghost use Rattle.network.specs.Replace.{agree, replace_fault};
 
 use fields::faults::unless;
-use records::layer::{Layer, record_len, sums_of};
-use records::mark::agreeing_of;
+use records::layer::Layer;
 use records::reader::record_fault;
 use refusals::refusal::Refusal;
 
@@ -25,11 +24,11 @@ pub fn replace_fault(file: &[u8], y: Layer, new: &[u8]) -> Result<(), Refusal>
     requires y_in_bounds { y.start + record_len y ≤ length file.now }
     ensures { fault_of result ≡ replace_fault file.now y new.now }
 {
-    unless(new.len() == record_len(y), Refusal::BadRecord)?;
+    unless(new.len() == y.record_len(), Refusal::BadRecord)?;
     unless(
-        agrees(file, y.start, new, agreeing_of(y.mark)),
+        agrees(file, y.start, new, y.mark.agreeing()),
         Refusal::BadRecord,
     )?;
-    let record = record_fault(y.mark, new, sums_of(y.kind));
+    let record = record_fault(y.mark, new, y.kind.sums());
     unless(record.is_ok(), Refusal::BadRecord)
 }

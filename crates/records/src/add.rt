@@ -47,16 +47,18 @@ pub fn add_at(s: &[u8], at: usize) -> Add
     }
 }
 
-// The fields in file order.
-#[tactic(auto, using(fields::proofs::Refusals::in_order))]
-pub fn add_fields(a: Add) -> Result<(), Refusal>
-    ensures { fault_of result ≡ add_fields a }
-{
-    clamp_fault(a.low, a.high)?;
-    multiplier_fault(a.first.multiplier)?;
-    multiplier_fault(a.second.multiplier)?;
-    multiplier_fault(a.third.multiplier)?;
-    shift_fault(a.first.shift)?;
-    shift_fault(a.second.shift)?;
-    shift_fault(a.third.shift)
+impl Add {
+    // The fields in file order.
+    #[tactic(auto, using(fields::proofs::Refusals::in_order))]
+    pub fn check(self) -> Result<(), Refusal>
+        ensures { fault_of result ≡ add_fields self }
+    {
+        clamp_fault(self.low, self.high)?;
+        multiplier_fault(self.first.multiplier)?;
+        multiplier_fault(self.second.multiplier)?;
+        multiplier_fault(self.third.multiplier)?;
+        shift_fault(self.first.shift)?;
+        shift_fault(self.second.shift)?;
+        shift_fault(self.third.shift)
+    }
 }

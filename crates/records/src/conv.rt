@@ -5,9 +5,9 @@ ghost use Rattle.records.specs.Mark.{fixed_len};
 ghost use Rattle.records.specs.Conv.{blank_conv, conv_at, conv_fields};
 ghost use Rattle.records.specs.declared.mark.Mark.TheVariants.{CV};
 
-use crate::frame::{Frame, frame_fields};
+use crate::frame::Frame;
 use crate::layer::Scale;
-use crate::weighing::{Weighing, weighing_at, weighing_fields};
+use crate::weighing::{Weighing, weighing_at};
 use fields::faults::within;
 use refusals::refusal::Refusal;
 
@@ -61,12 +61,14 @@ pub fn conv_at(s: &[u8], at: usize) -> Conv
     }
 }
 
-// The fields in file order.
-#[tactic(auto, using(fields::proofs::Refusals::in_order))]
-pub fn conv_fields(c: Conv) -> Result<(), Refusal>
-    ensures { fault_of result ≡ conv_fields c }
-{
-    within(1, 64, u32::from(c.filters))?;
-    frame_fields(c.frame)?;
-    weighing_fields(c.weighing)
+impl Conv {
+    // The fields in file order.
+    #[tactic(auto, using(fields::proofs::Refusals::in_order))]
+    pub fn check(self) -> Result<(), Refusal>
+        ensures { fault_of result ≡ conv_fields self }
+    {
+        within(1, 64, u32::from(self.filters))?;
+        self.frame.check()?;
+        self.weighing.check()
+    }
 }

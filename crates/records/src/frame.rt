@@ -19,39 +19,41 @@ pub struct Frame {
     pub padding: u8,
 }
 
-// The fields in file order.
-#[tactic(auto, using(fields::proofs::Refusals::in_order))]
-pub fn frame_fields(f: Frame) -> Result<(), Refusal>
-    ensures { fault_of result ≡ frame_fields f }
-{
-    within(1, 7, u32::from(f.height))?;
-    within(1, 7, u32::from(f.width))?;
-    within(1, 4, u32::from(f.stride))?;
-    padding_fault(f.padding, f.height, f.width)
-}
+impl Frame {
+    // The fields in file order.
+    #[tactic(auto, using(fields::proofs::Refusals::in_order))]
+    pub fn check(self) -> Result<(), Refusal>
+        ensures { fault_of result ≡ frame_fields self }
+    {
+        within(1, 7, u32::from(self.height))?;
+        within(1, 7, u32::from(self.width))?;
+        within(1, 4, u32::from(self.stride))?;
+        padding_fault(self.padding, self.height, self.width)
+    }
 
-// Whether each padded side of the input is at least the kernel's.
-#[tactic(auto, unfolding(crate::specs::Frame::fits))]
-pub fn frame_fits(f: Frame, input: Shape) -> bool
-    requires { GoodShape input }
-    ensures { result ≡ fits f input }
-{
-    let twice = 2 * f.padding as usize;
-    f.height as usize <= input.rows + twice && f.width as usize <= input.columns + twice
-}
+    // Whether each padded side of the input is at least the kernel's.
+    #[tactic(auto, unfolding(crate::specs::Frame::fits))]
+    pub fn fits(self, input: Shape) -> bool
+        requires { GoodShape input }
+        ensures { result ≡ fits self input }
+    {
+        let twice = 2 * self.padding as usize;
+        self.height as usize <= input.rows + twice && self.width as usize <= input.columns + twice
+    }
 
-// The output's shape, with so many channels.
-pub fn frame_output(f: Frame, input: Shape, channels: u8) -> Shape
-    requires frame_ok { FrameOk f }
-    requires good_shape { GoodShape input }
-    requires frame_fits { FrameFits f input }
-    ensures { (result ≡ frame_output f input channels) × SmallShape result }
-{
-    let twice = 2 * f.padding as usize;
-    let stride = f.stride as usize;
-    Shape {
-        rows: strides_in(input.rows + twice - f.height as usize, stride) + 1,
-        columns: strides_in(input.columns + twice - f.width as usize, stride) + 1,
-        channels: channels as usize,
+    // The output's shape, with so many channels.
+    pub fn output(self, input: Shape, channels: u8) -> Shape
+        requires frame_ok { FrameOk self }
+        requires good_shape { GoodShape input }
+        requires frame_fits { FrameFits self input }
+        ensures { (result ≡ frame_output self input channels) × SmallShape result }
+    {
+        let twice = 2 * self.padding as usize;
+        let stride = self.stride as usize;
+        Shape {
+            rows: strides_in(input.rows + twice - self.height as usize, stride) + 1,
+            columns: strides_in(input.columns + twice - self.width as usize, stride) + 1,
+            channels: channels as usize,
+        }
     }
 }

@@ -6,7 +6,7 @@ ghost use Rattle.records.specs.Mark.{fixed_len};
 ghost use Rattle.records.specs.Full.{full_at, full_fields, full_output};
 ghost use Rattle.records.specs.declared.mark.Mark.TheVariants.{FU};
 
-use crate::weighing::{Weighing, weighing_at, weighing_fields};
+use crate::weighing::{Weighing, weighing_at};
 use fields::bytes::u16_at;
 use fields::faults::within;
 use fields::shape::Shape;
@@ -30,22 +30,24 @@ pub fn full_at(s: &[u8], at: usize) -> Full
     }
 }
 
-// The fields in file order.
-#[tactic(auto, using(fields::proofs::Refusals::in_order))]
-pub fn full_fields(f: Full) -> Result<(), Refusal>
-    ensures { fault_of result ≡ full_fields f }
-{
-    within(1, 256, u32::from(f.outputs))?;
-    weighing_fields(f.weighing)
-}
+impl Full {
+    // The fields in file order.
+    #[tactic(auto, using(fields::proofs::Refusals::in_order))]
+    pub fn check(self) -> Result<(), Refusal>
+        ensures { fault_of result ≡ full_fields self }
+    {
+        within(1, 256, u32::from(self.outputs))?;
+        self.weighing.check()
+    }
 
-// 1 row, 1 column and a channel per output.
-pub fn full_output(f: Full) -> Shape
-    ensures { (result ≡ full_output f) × SmallShape result }
-{
-    Shape {
-        rows: 1,
-        columns: 1,
-        channels: f.outputs as usize,
+    // 1 row, 1 column and a channel per output.
+    pub fn output(self) -> Shape
+        ensures { (result ≡ full_output self) × SmallShape result }
+    {
+        Shape {
+            rows: 1,
+            columns: 1,
+            channels: self.outputs as usize,
+        }
     }
 }

@@ -7,8 +7,8 @@ ghost use Rattle.records.specs.Layer.{sums_of, terms_of, other_of, biases_at, we
 use crate::add::Add;
 use crate::conv::Conv;
 use crate::full::Full;
-use crate::mark::{Mark, fixed_len};
-use fields::shape::{Shape, bytes_of};
+use crate::mark::Mark;
+use fields::shape::Shape;
 use fields::stored::stored_len;
 
 // A multiplier and a shift, by which a total is rescaled.
@@ -39,67 +39,71 @@ pub struct Layer {
     pub mark: Mark,
 }
 
-// How many stored sums a layer has: one for each filter or output.
-pub fn sums_of(kind: Kind) -> usize
-    ensures { (result ≡ sums_of kind) × (result ≤ 65535) }
-{
-    match kind {
-        Kind::Conv(c) => c.filters as usize,
-        Kind::Full(f) => f.outputs as usize,
-        Kind::Add(_) => 0,
+impl Kind {
+    // How many stored sums a layer has: one for each filter or output.
+    pub fn sums(self) -> usize
+        ensures { (result ≡ sums_of self) × (result ≤ 65535) }
+    {
+        match self {
+            Kind::Conv(c) => c.filters as usize,
+            Kind::Full(f) => f.outputs as usize,
+            Kind::Add(_) => 0,
+        }
+    }
+
+    // The other tensor that a layer after tensor m reads, or m itself.
+    pub fn other(self, m: usize) -> usize
+        ensures { result ≡ other_of self m }
+    {
+        match self {
+            Kind::Conv(_) | Kind::Full(_) => m,
+            Kind::Add(a) => a.other as usize,
+        }
+    }
+
+    // N: the terms of each output of a layer with that input.
+    pub fn terms(self, input: Shape) -> usize
+        requires { GoodShape input }
+        ensures { (result ≡ terms_of self input) × (result ≤ 16777216) }
+    {
+        match self {
+            Kind::Conv(c) => (c.frame.height as usize * c.frame.width as usize) * input.channels,
+            Kind::Full(_) => input.bytes(),
+            Kind::Add(_) => 0,
+        }
     }
 }
 
-// The other tensor that a layer after tensor m reads, or m itself.
-pub fn other_of(kind: Kind, m: usize) -> usize
-    ensures { result ≡ other_of kind m }
-{
-    match kind {
-        Kind::Conv(_) | Kind::Full(_) => m,
-        Kind::Add(a) => a.other as usize,
+impl Layer {
+    // The same, of a layer.
+    pub fn terms(self) -> usize
+        requires { GoodShape self.input }
+        ensures { (result ≡ terms_of self.kind self.input) × (result ≤ 16777216) }
+    {
+        self.kind.terms(self.input)
     }
-}
 
-// N: the terms of each output of a layer with that input.
-pub fn terms_by(kind: Kind, input: Shape) -> usize
-    requires { GoodShape input }
-    ensures { (result ≡ terms_of kind input) × (result ≤ 16777216) }
-{
-    match kind {
-        Kind::Conv(c) => (c.frame.height as usize * c.frame.width as usize) * input.channels,
-        Kind::Full(_) => bytes_of(input),
-        Kind::Add(_) => 0,
+    // Where a layer's biases begin in the file.
+    pub fn biases_at(self) -> usize
+        requires { self.start ≤ file_most }
+        ensures { (result ≡ biases_at self) × (result ≤ 65558) }
+    {
+        self.start + self.mark.fixed_len()
     }
-}
 
-// The same, of a layer.
-pub fn terms_of(y: Layer) -> usize
-    requires { GoodShape y.input }
-    ensures { (result ≡ terms_of y.kind y.input) × (result ≤ 16777216) }
-{
-    terms_by(y.kind, y.input)
-}
+    // Where its weights begin.
+    pub fn weights_at(self) -> usize
+        requires { self.start ≤ file_most }
+        ensures { result ≡ weights_at self }
+    {
+        self.biases_at() + 4 * self.kind.sums()
+    }
 
-// Where a layer's biases begin in the file.
-pub fn biases_at(y: Layer) -> usize
-    requires { y.start ≤ file_most }
-    ensures { (result ≡ biases_at y) × (result ≤ 65558) }
-{
-    y.start + fixed_len(y.mark)
-}
-
-// Where its weights begin.
-pub fn weights_at(y: Layer) -> usize
-    requires { y.start ≤ file_most }
-    ensures { result ≡ weights_at y }
-{
-    biases_at(y) + 4 * sums_of(y.kind)
-}
-
-// The bytes of its whole record.
-pub fn record_len(y: Layer) -> usize
-    requires { GoodShape y.input }
-    ensures { (result ≡ record_len y) × (result ≤ 3000000000000) }
-{
-    fixed_len(y.mark) + stored_len(sums_of(y.kind), terms_of(y))
+    // The bytes of its whole record.
+    pub fn record_len(self) -> usize
+        requires { GoodShape self.input }
+        ensures { (result ≡ record_len self) × (result ≤ 3000000000000) }
+    {
+        self.mark.fixed_len() + stored_len(self.kind.sums(), self.terms())
+    }
 }

@@ -40,26 +40,28 @@ pub fn mark_at(s: &[u8], at: usize) -> Mark
     Mark::Other
 }
 
-// How many bytes of a record stand before its biases.
-pub fn fixed_len(m: Mark) -> usize
-    ensures { result ≡ fixed_len m }
-{
-    match m {
-        Mark::CV => 16,
-        Mark::FU => 14,
-        Mark::AD => 22,
-        Mark::Other => 2,
+impl Mark {
+    // How many bytes of a record stand before its biases.
+    pub fn fixed_len(self) -> usize
+        ensures { result ≡ fixed_len self }
+    {
+        match self {
+            Mark::CV => 16,
+            Mark::FU => 14,
+            Mark::AD => 22,
+            Mark::Other => 2,
+        }
     }
-}
 
-// How many first bytes of a record its replacement shares.
-pub fn agreeing_of(m: Mark) -> usize
-    ensures { result ≡ agreeing m }
-{
-    match m {
-        Mark::CV => 7,
-        Mark::FU => 4,
-        Mark::AD => 3,
-        Mark::Other => 2,
+    // How many first bytes of a record its replacement shares.
+    pub fn agreeing(self) -> usize
+        ensures { result ≡ agreeing self }
+    {
+        match self {
+            Mark::CV => 7,
+            Mark::FU => 4,
+            Mark::AD => 3,
+            Mark::Other => 2,
+        }
     }
 }

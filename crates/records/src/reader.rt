@@ -9,14 +9,13 @@ ghost use Rattle.records.specs.Layer.{output_shape};
 ghost use Rattle.records.specs.Reader.{kind_at, own_fault, suit_fault, read_as, record_fault};
 ghost use Rattle.records.specs.Answer.{read_of};
 
-use crate::add::{add_at, add_fields};
-use crate::conv::{blank_conv, conv_at, conv_fields};
-use crate::frame::{frame_fits, frame_output};
-use crate::full::{full_at, full_fields, full_output};
-use crate::layer::{Kind, Layer, sums_of, terms_by};
-use crate::mark::{Mark, fixed_len};
+use crate::add::add_at;
+use crate::conv::{blank_conv, conv_at};
+use crate::full::full_at;
+use crate::layer::{Kind, Layer};
+use crate::mark::Mark;
 use fields::faults::{spare_fault, unless};
-use fields::shape::{Shape, size_fault};
+use fields::shape::Shape;
 use fields::stored::{bias_faults, stored_fault, stored_len};
 use refusals::refusal::Refusal;
 
@@ -50,14 +49,14 @@ pub fn own_fault(m: Mark, s: &[u8], at: usize) -> Result<(), Refusal>
     ensures { fault_of result ≡ own_fault m s.now at }
 {
     match m {
-        Mark::CV => conv_fields(conv_at(s, at)),
+        Mark::CV => conv_at(s, at).check(),
         Mark::FU => {
             spare_fault(s[at + 9])?;
-            full_fields(full_at(s, at))
+            full_at(s, at).check()
         }
         Mark::AD => {
             spare_fault(s[at + 21])?;
-            add_fields(add_at(s, at))
+            add_at(s, at).check()
         }
         Mark::Other => Err(Refusal::Malformed),
     }
@@ -70,7 +69,7 @@ fn suit_fault(kind: Kind, b: Before, other: Shape) -> Result<(), Refusal>
     ensures { fault_of result ≡ suit_fault kind b other }
 {
     let suits = match kind {
-        Kind::Conv(c) => frame_fits(c.frame, b.input),
+        Kind::Conv(c) => c.frame.fits(b.input),
         Kind::Full(_) => true,
         Kind::Add(a) => a.other as usize <= b.made && other == b.input,
     };
@@ -85,8 +84,8 @@ fn output_shape(kind: Kind, b: Before, other: Shape) -> Shape
     ensures { (result ≡ output_shape kind b.input) × SmallShape result }
 {
     match kind {
-        Kind::Conv(c) => frame_output(c.frame, b.input, c.filters),
-        Kind::Full(f) => full_output(f),
+        Kind::Conv(c) => c.frame.output(b.input, c.filters),
+        Kind::Full(f) => f.output(),
         Kind::Add(_) => b.input,
     }
 }
@@ -108,10 +107,10 @@ pub fn fit_record(
 {
     suit_fault(kind, b, other)?;
     let output = output_shape(kind, b, other);
-    size_fault(output, b.area)?;
-    let fixed = fixed_len(m);
-    let n = sums_of(kind);
-    let w = terms_by(kind, b.input);
+    output.size_fault(b.area)?;
+    let fixed = m.fixed_len();
+    let n = kind.sums();
+    let w = kind.terms(b.input);
     stored_fault(s, at + fixed, n, w)?;
     let y = Layer {
         mark: m,
@@ -132,5 +131,5 @@ pub fn record_fault(m: Mark, r: &[u8], n: usize) -> Result<(), Refusal>
     ensures { fault_of result ≡ record_fault m r.now n }
 {
     own_fault(m, r, 0)?;
-    bias_faults(r, fixed_len(m), n)
+    bias_faults(r, m.fixed_len(), n)
 }

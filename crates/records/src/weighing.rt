@@ -35,12 +35,14 @@ pub fn weighing_at(s: &[u8], from: usize, multiplier: usize) -> Weighing
     }
 }
 
-// The fields in file order.
-#[tactic(auto, using(fields::proofs::Refusals::in_order))]
-pub fn weighing_fields(w: Weighing) -> Result<(), Refusal>
-    ensures { fault_of result ≡ weighing_fields w }
-{
-    clamp_fault(w.low, w.high)?;
-    shift_fault(w.scale.shift)?;
-    multiplier_fault(w.scale.multiplier)
+impl Weighing {
+    // The fields in file order.
+    #[tactic(auto, using(fields::proofs::Refusals::in_order))]
+    pub fn check(self) -> Result<(), Refusal>
+        ensures { fault_of result ≡ weighing_fields self }
+    {
+        clamp_fault(self.low, self.high)?;
+        shift_fault(self.scale.shift)?;
+        multiplier_fault(self.scale.multiplier)
+    }
 }

@@ -12,14 +12,14 @@ pub returns : goal.returns
 returns c =
     let sums = c.args.sums.now in
     let at = c.args.y.sums in
-    let most = 255 * c.terms_of.result in
-    let own = take (at + c.sums_of.result - at) (drop at sums) in
-    let long : length own ≡ c.sums_of.result = omega (arith, length-take (at + c.sums_of.result - at) (drop at sums), length-drop at sums) in
-    fits_as _ _ _ _ _ c.terms_of.ensures.0 c.sums_of.ensures.0
+    let most = 255 * c.terms.result in
+    let own = take (at + c.sums.result - at) (drop at sums) in
+    let long : length own ≡ c.sums.result = omega (arith, length-take (at + c.sums.result - at) (drop at sums), length-drop at sums) in
+    fits_as _ _ _ _ _ c.terms.ensures.0 c.sums.ensures.0
     (all_from_yields_List (λ x. leb x most) _ _ c.all.result c.all.ensures.ran (YieldsList-from_slice own c.iter.ensures.rest)
     (λ x b q k. search (rules, tests))
     ∙ all_every (λ x. leb x most) (sum_in sums at most) own 0
     (λ t h.
-    let few : t < at + c.sums_of.result - at = omega arith in
-    ap (λ x. leb x most) (get_or-take (at + c.sums_of.result - at) (drop at sums) t 0 few ∙ get_or-drop at sums t 0))
-    c.sums_of.result long)
+    let few : t < at + c.sums.result - at = omega arith in
+    ap (λ x. leb x most) (get_or-take (at + c.sums.result - at) (drop at sums) t 0 few ∙ get_or-drop at sums t 0))
+    c.sums.result long)

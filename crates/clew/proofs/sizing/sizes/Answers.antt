@@ -6,17 +6,17 @@ use Rattle.fields.proofs.Refusals.{number_some}
 use Rattle.clew.proofs.Sized.{sizes_refused, sizes_taken, decoded_taken}
 use Rattle.clew.proofs.sizing.sizes.Goals as goal
 
-pub bytes_of-requires : goal.bytes_of-requires
-bytes_of-requires c = small ((decoded_taken _ c.in-Ok.ensures refl).shapes 0 (search rules))
+pub bytes-requires : goal.bytes-requires
+bytes-requires c = small ((decoded_taken _ c.in-Ok.ensures refl).shapes 0 (search rules))
 
 pub tensor-requires : goal.tensor-requires
 tensor-requires c = (decoded_taken _ c.in-Ok.ensures refl).count-few
 
-pub bytes_of-requires-in-Ok : goal.bytes_of-requires-in-Ok
-bytes_of-requires-in-Ok c = rw c.tensor.ensures (small ((decoded_taken _ c.in-Ok.ensures refl).shapes _ (le_refl _)))
+pub bytes-requires-in-Ok : goal.bytes-requires-in-Ok
+bytes-requires-in-Ok c = rw c.tensor.ensures (small ((decoded_taken _ c.in-Ok.ensures refl).shapes _ (le_refl _)))
 
 pub returns-in-Ok : goal.returns-in-Ok
-returns-in-Ok c = rw (sizes_taken c.args.file.now c.in-Ok.ensures refl, c.bytes_of.ensures, ← c.tensor.ensures, ← c.bytes_of-in-Ok.ensures)
+returns-in-Ok c = rw (sizes_taken c.args.file.now c.in-Ok.ensures refl, c.bytes.ensures, ← c.tensor.ensures, ← c.bytes-in-Ok.ensures)
 
 pub returns-in-Err : goal.returns-in-Err
 returns-in-Err c = rw c.number.ensures.value (sym (sizes_refused c.args.file.now (ap (λ d. d.fault) c.in-Err.ensures) (number_some c.in-Err.refusal)))

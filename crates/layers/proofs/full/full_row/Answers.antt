@@ -5,7 +5,7 @@ use Rattle.layers.proofs.full.full_row.Goals as goal
 
 pub put_within-requires-clause-apart : goal.put_within-requires-clause-apart
 put_within-requires-clause-apart c =
-    rw (c.outputs_for-o.ensures, c.bytes_of.ensures)
+    rw (c.outputs_for-o.ensures, c.bytes.ensures)
     (rw (full_bytes c.args.y.output c.args.f c.requires.ready.output) at c.requires.placed.apart)
 
 pub put_within-requires-clause-room : goal.put_within-requires-clause-room

@@ -12,9 +12,9 @@ returns c =
     let y = c.args.y in
     let file = c.args.file.now in
     let sums = c.args.sums.now in
-    let n = c.terms_of-n in
+    let n = c.terms-n in
     let at = c.weights_at-weights in
-    let count = c.sums_of-count in
+    let count = c.sums-count in
     filled sums 0 y.sums count.result (λ f. sum (part file (at.result + f * n.result) n.result)) _
     (omega (arith, c.requires.room, count.ensures.0)) c.loop-f.auto.sum-items (λ k g. c.loop-f.invariant k (omega arith)) ∙
     ap (pasted sums y.sums) (sums-are y file n.ensures.0 count.ensures.0 at.ensures)

@@ -1,4 +1,4 @@
--- `records::frame::frame_output` meets its contract.
+-- `records::frame::Frame::output` meets its contract.
 use Prim.Native.Nat.{ℕ, ◌+◌, ◌-◌, ◌*◌}
 use mathlib.Core.Path.{◌≡◌, ap₂, subst⁻¹}
 use native.Mathlib.Omega.{arith}
@@ -7,17 +7,17 @@ use Rattle.fields.specs.Asked.{SmallShape}
 use Rattle.fields.specs.declared.shape.Shape.{Shape}
 use Rattle.records.specs.Frame.{frame_output}
 use Rattle.records.proofs.Frames.{frame_small}
-use Rattle.records.proofs.frame.frame_output.Goals as goal
+use Rattle.records.proofs.frame.Frame.output.Goals as goal
 
 pub overflow_add-result : goal.overflow_add-result
 overflow_add-result c =
     let rows = c.strides_in.ensures in
-    omega (arith, div-le_self (c.args.input.rows + 2 * c.args.f.padding - c.args.f.height) c.args.f.stride)
+    omega (arith, div-le_self (c.args.input.rows + 2 * c.args.self.padding - c.args.self.height) c.args.self.stride)
 
 pub overflow_add-result-2 : goal.overflow_add-result-2
 overflow_add-result-2 c =
     let columns = c.strides_in-2.ensures in
-    omega (arith, div-le_self (c.args.input.columns + 2 * c.args.f.padding - c.args.f.width) c.args.f.stride)
+    omega (arith, div-le_self (c.args.input.columns + 2 * c.args.self.padding - c.args.self.width) c.args.self.stride)
 
 -- the shape that the code makes of the strides in both sides
 abbrev shape : ℕ → ℕ → ℕ → Shape
@@ -26,11 +26,11 @@ shape channels down across = record { rows = down + 1; columns = across + 1; cha
 shape_is :
     (c : goal.After-strides_in-2) →
     shape c.args.channels c.strides_in.result c.strides_in-2.result ≡
-    frame_output c.args.f c.args.input c.args.channels
+    frame_output c.args.self c.args.input c.args.channels
 unfolding frame_output
 shape_is c = ap₂ (shape c.args.channels) c.strides_in.ensures c.strides_in-2.ensures
 
 pub returns : goal.returns
 returns c =
-    let small = frame_small c.args.f c.args.input c.args.channels c.requires.frame_ok c.requires.good_shape (omega arith) in
+    let small = frame_small c.args.self c.args.input c.args.channels c.requires.frame_ok c.requires.good_shape (omega arith) in
     (shape_is c, subst⁻¹ SmallShape (shape_is c) small)
