@@ -84,8 +84,13 @@ pub fn list(file: &[u8], out: &mut [u8]) -> usize
 {
     let mut text = Text { out, length: 0 };
     match decode(file) {
-        Ok(network) => text.table(file, &network),
-        Err(refusal) => text.refusal(usize::from(refusal.number())),
+        Ok(network) => {
+            text.table(file, &network);
+            text.length
+        }
+        Err(refusal) => {
+            text.refusal(usize::from(refusal.number()));
+            text.length
+        }
     }
-    text.length
 }

@@ -15,10 +15,10 @@ layer_line-requires-clause-good_shape c = output_good c.requires.taken c.loop-m-
 pub loop-m-preserved : goal.loop-m-preserved
 loop-m-preserved c = record {
   lines =
-      table_turns c.args.network c.loop-m.m (omega arith) c.layer-layer.ensures c.loop-m.invariant.lines c.layer_line.ensures.written;
+      table_turns c.args.network.now c.loop-m.m (omega arith) c.layer-layer.ensures c.loop-m.invariant.lines c.layer_line.ensures.written;
   within = omega arith;
 }
 
 pub returns-clause-written : goal.returns-clause-written
 returns-clause-written c =
-    table_ends c.args.network (omega arith) (omega arith) c.word.ensures c.line.ensures.written c.loop-m.invariant.lines
+    table_ends c.args.network.now (omega arith) (omega arith) c.word.ensures c.line.ensures.written c.loop-m.invariant.lines
