@@ -1,6 +1,4 @@
 -- The laws of the bands, and the examples.
-pub mod Every
-pub mod Made
 pub mod Bands
 pub mod Reached
 pub mod States

@@ -1,4 +1,3 @@
 -- Laws that belong to no one function.
-pub mod Made
 pub mod Flats
 pub mod Told

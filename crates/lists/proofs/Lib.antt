@@ -3,3 +3,5 @@ pub mod Choice
 pub mod Pasted
 pub mod Bytes
 pub mod Laid
+pub mod Made
+pub mod Every

@@ -3,7 +3,7 @@ use mathlib.Core.Path.{ap}
 use Rattle.std.proofs.Common.{rules, tests}
 use Rattle.bands.specs.Band.{none}
 use Rattle.bands.specs.State.{loaded}
-use Rattle.bands.proofs.Made.{made_joined}
+use Rattle.lists.proofs.Made.{made_joined}
 use Rattle.bands.proofs.States.{loaded_band}
 use Rattle.bands.proofs.state.after_load.Goals as goal
 

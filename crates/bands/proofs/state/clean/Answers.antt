@@ -6,7 +6,7 @@ use Rattle.std.proofs.lemmas.Iterator.{YieldsList-from_slice}
 use Rattle.std.proofs.lemmas.Iterator.Search.{all_from_yields_List}
 use Rattle.bands.specs.Band.{is_empty, none}
 use Rattle.bands.specs.State.{band_of, clean}
-use Rattle.bands.proofs.Every.{all_every}
+use Rattle.lists.proofs.Every.{all_every}
 use Rattle.bands.proofs.state.clean.Goals as goal
 
 pub returns : goal.returns

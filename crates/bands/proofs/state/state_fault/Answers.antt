@@ -8,7 +8,7 @@ use Rattle.std.proofs.lemmas.Iterator.Search.{all_from_yields_List}
 use Rattle.std.proofs.lemmas.List.FromFn.{get_or-range_with_len}
 use Rattle.lists.specs.Choice.{every}
 use Rattle.bands.specs.State.{fair_at, state_fault}
-use Rattle.bands.proofs.Every.{all_every}
+use Rattle.lists.proofs.Every.{all_every}
 use Rattle.bands.proofs.state.state_fault.Goals as goal
 use Rattle.bands.proofs.state.state_fault.Goals.{After-all}
 

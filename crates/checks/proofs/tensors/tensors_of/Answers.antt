@@ -1,7 +1,7 @@
 -- `checks::tensors::tensors_of` meets its contract.
 use Rattle.std.proofs.Common.{rules, tests, ap}
 use Rattle.network.specs.Network.{tensor_of}
-use Rattle.bands.proofs.Made.{made_joined}
+use Rattle.lists.proofs.Made.{made_joined}
 use Rattle.checks.proofs.tensors.tensors_of.Goals as goal
 
 pub returns : goal.returns

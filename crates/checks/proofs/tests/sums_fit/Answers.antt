@@ -4,7 +4,7 @@ use lib.Dec.{leb}
 use Rattle.std.proofs.lemmas.Iterator.{YieldsList-from_slice}
 use Rattle.std.proofs.lemmas.Iterator.Search.{all_from_yields_List}
 use Rattle.std.proofs.lemmas.List.{get_or-take, get_or-drop, length-take, length-drop}
-use Rattle.bands.proofs.Every.{all_every}
+use Rattle.lists.proofs.Every.{all_every}
 use Rattle.checks.proofs.Sums.{sum_in, fits_as}
 use Rattle.checks.proofs.tests.sums_fit.Goals as goal
 

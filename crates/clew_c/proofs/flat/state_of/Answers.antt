@@ -1,7 +1,7 @@
 use Rattle.std.proofs.Common.{rules, ◌+◌, ◌*◌, ap, get_or}
 use Rattle.bands.specs.Band.{band, none}
 use Rattle.clew_c.specs.Flat.{state_of}
-use Rattle.clew_c.proofs.Made.{made_joined}
+use Rattle.lists.proofs.Made.{made_joined}
 use Rattle.clew_c.proofs.flat.state_of.Goals as goal
 
 pub returns : goal.returns
