@@ -2,17 +2,16 @@
 -- Each operation has a law that gives such a difference for its result, and `equal`, `size`, `fits` and the like turn what is
 -- to be shown of a whole number into facts of natural numbers, which `omega arith` proves.
 -- Assumes nothing.
-use mathlib.Core.Path.{◌≡◌, refl, sym, ap, subst, subst⁻¹}
+use mathlib.Core.Path.{◌≡◌, refl, ap, subst⁻¹}
 use mathlib.Core.Bool.{Bool, true, false, not, cond}
 use Prim.Native.Nat.{ℕ, zero, suc, ◌+◌, ◌*◌, ◌-◌, ◌/◌, ◌^◌, ◌<◌, ◌≤◌}
 use native.Mathlib.Nat.{mod-lt, div-add-mod', add-mul-div_right, lt_of_mul-lt-mul_right}
 use native.Mathlib.Omega.{arith}
-use borrow.Author.Tests.{ltb-true, ltb-false}
 use lib.Dec.{T, ltb, ltb→lt, nltb→le}
 use lib.IntN.{ℤ, pos, negsuc, neg_ℤ, nat_abs, sub_ℕ, ◌+ℤ◌, ◌-ℤ◌, ◌*ℤ◌}
-use lib.Signed.{lt_z, non_neg, shr_z}
+use lib.Signed.{shr_z}
 use mir.Syntax.{Width, w32, w64}
-use mir.Val.{Fits, SFits, bits, bool_byte, hbits, of_z, to_z}
+use mir.Val.{SFits, bool_byte, hbits, of_z, to_z}
 use mir.ValLaws.{to_z-of_z, to_z_pos}
 
 -- z is `up z` less `down z`, and one of the two is 0
@@ -124,20 +123,6 @@ pub range : (w : Width) (z : ℤ) → SFits w z → (up z < 2 ^ hbits w) × (dow
 range w (pos n) h = (h.sfits, omega arith)
 range w (negsuc n) h = (omega (arith, h.sfits), h.sfits)
 
--- the test of order, where a branch is taken
-pub under : {x y : ℤ} {a b c d : ℕ} → x ≐ a ⊖ b → y ≐ c ⊖ d → lt_z x y ≡ true → a + d < c + b
-under {x = pos m} {y = pos n} h k e = omega (arith, ltb-true m n e)
-under {x = pos m} {y = negsuc n} h k e = absurd (subst T (sym e) tt)
-under {x = negsuc m} {y = pos n} h k e = omega arith
-under {x = negsuc m} {y = negsuc n} h k e = omega (arith, ltb-true n m e)
-
--- the test of order, where a branch is not taken
-pub not_under : {x y : ℤ} {a b c d : ℕ} → x ≐ a ⊖ b → y ≐ c ⊖ d → lt_z x y ≡ false → c + b ≤ a + d
-not_under {x = pos m} {y = pos n} h k e = omega (arith, ltb-false m n e)
-not_under {x = pos m} {y = negsuc n} h k e = omega arith
-not_under {x = negsuc m} {y = pos n} h k e = absurd (subst T e tt)
-not_under {x = negsuc m} {y = negsuc n} h k e = omega (arith, ltb-false n m e)
-
 -- ---- division that rounds down
 
 -- floor((a − m × d) / d) is floor(a / d) − m
@@ -175,11 +160,6 @@ unsigned w n p = subst⁻¹ (λ z. z ≐ n ⊖ 0) (to_z_pos w n p) (nat n)
 pub flag : (t : Bool) → (to_z w32 (bool_byte t) ≡ pos (bool_byte t)) × (bool_byte t ≤ 1)
 flag true = (refl, omega arith)
 flag false = (refl, omega arith)
-
--- what the cast of a number that is not negative to an unsigned type asks
-pub natural : (w : Width) {x : ℤ} {a b : ℕ} → x ≐ a ⊖ b → b ≤ a → a < b + 2 ^ bits w → T (non_neg x) × Fits w (nat_abs x)
-natural w {x = pos n} h p q = (tt, record { fits = omega arith })
-natural w {x = negsuc n} h p q = absurd (omega arith)
 
 -- an i32 that is cast to an i64 fits
 pub widens : (z : ℤ) → SFits w32 z → SFits w64 (to_z w32 (of_z w32 z))

@@ -9,7 +9,11 @@ pub fn offset_of(q: u8, zero: u8, multiplier: u32, shift: u8) -> i32
     requires { (multiplier < 2 ^ 31) × (shift < 32) }
     ensures { result ≡ offset q zero multiplier shift }
 {
-    rescale((q as i32 - zero as i32) * 1048576, multiplier, shift)
+    rescale(
+        (i32::from(q) - i32::from(zero)) * 1048576,
+        multiplier,
+        shift,
+    )
 }
 
 // The sum of the two rescaled numbers, rescaled by the third multiplier and shift.

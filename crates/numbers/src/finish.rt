@@ -7,12 +7,6 @@ pub fn finish(rescaled: i32, zero: u8, low: u8, high: u8) -> u8
     requires { low ≤ high }
     ensures { result ≡ finished rescaled zero low high }
 {
-    let sum = rescaled as i64 + zero as i64;
-    if sum < low as i64 {
-        low
-    } else if (high as i64) < sum {
-        high
-    } else {
-        sum as u8
-    }
+    let sum = i64::from(rescaled) + i64::from(zero);
+    sum.clamp(i64::from(low), i64::from(high)) as u8
 }

@@ -1,7 +1,5 @@
 // A total rescaled by a multiplier and a shift, with its two roundings.
-ghost use Rattle.std.specs.Prelude.{◌≡◌, ◌^◌, ◌<◌, pos};
-ghost use Rattle.std.specs.Int.Signed.{lt_z};
-ghost use mir.Val.{bool_byte};
+ghost use Rattle.std.specs.Prelude.{◌≡◌, ◌^◌, ◌<◌};
 ghost use Rattle.numbers.specs.Rescale.{nearest, high, rescaled};
 
 // floor((total × multiplier + 2^30) / 2^31): a shift of a signed number rounds down.
@@ -9,14 +7,7 @@ fn high_part(total: i32, multiplier: u32) -> i32
     requires { multiplier < 2 ^ 31 }
     ensures { result ≡ high total multiplier }
 {
-    ((total as i64 * multiplier as i64 + 0x4000_0000) >> 31) as i32
-}
-
-// 1 for a number below zero, and 0 for any other.
-fn below_zero(z: i32) -> i32
-    ensures { result ≡ pos (bool_byte (lt_z z (pos 0))) }
-{
-    (z < 0) as i32
+    ((i64::from(total) * i64::from(multiplier) + 0x4000_0000) >> 31) as i32
 }
 
 // z / 2^shift to the nearest whole, a half going away from zero: rounded down, and one more where the rest is half of
@@ -27,8 +18,8 @@ fn nearest_part(z: i32, shift: u8) -> i32
 {
     let mask = ((1u32 << shift) - 1) as i32;
     let rest = z & mask;
-    let most = (mask >> 1) + below_zero(z);
-    (z >> shift) + (most < rest) as i32
+    let most = (mask >> 1) + i32::from(z < 0);
+    (z >> shift) + i32::from(most < rest)
 }
 
 // The total rescaled: first the high multiplication, then the division by 2^shift.

@@ -10,7 +10,7 @@ pub fn total(bias: i32, products: u32, bytes: u32, sum: u32, n: u32, z: u8, v: u
     requires v_bound { nat_abs (total_from bias products bytes sum n z v) ≤ 2139111424 }
     ensures { result ≡ total_from bias products bytes sum n z v }
 {
-    let up = products + n * z as u32 * v as u32;
-    let down = v as u32 * bytes + z as u32 * sum;
-    (bias as i64 + up as i64 - down as i64) as i32
+    let up = products + n * u32::from(z) * u32::from(v);
+    let down = u32::from(v) * bytes + u32::from(z) * sum;
+    (i64::from(bias) + i64::from(up) - i64::from(down)) as i32
 }
