@@ -19,7 +19,7 @@ use Rattle.records.specs.declared.layer.Kind.{Kind}
 use Rattle.records.specs.declared.layer.Kind.TheVariants.{Conv, Full, Add}
 use Rattle.records.specs.declared.conv.Conv.{Conv as ConvParams}
 use Rattle.records.specs.declared.layer.Layer.{Layer}
-use Rattle.records.specs.declared.layer.Scale.{Scale}
+use Rattle.numbers.specs.declared.rescale.Scale.{Scale}
 use Rattle.windows.specs.Window.{window_of}
 use Rattle.lists.proofs.Bytes.{Bytes, bytes_take, bytes_drop}
 use Rattle.lists.proofs.Pasted.{part_length, joined_same}

@@ -19,14 +19,9 @@ fn add_byte(a: Add, z: u8, zr: u8, q: u8, r: u8) -> u8
     requires { AddOk a }
     ensures { result ≡ add_byte a z zr q r }
 {
-    let first = offset_of(q, z, a.first.multiplier, a.first.shift);
-    let second = offset_of(r, zr, a.second.multiplier, a.second.shift);
-    finish(
-        summed_of(first, second, a.third.multiplier, a.third.shift),
-        a.zero,
-        a.low,
-        a.high,
-    )
+    let first = offset_of(q, z, a.first);
+    let second = offset_of(r, zr, a.second);
+    finish(summed_of(first, second, a.third), a.zero, a.low, a.high)
 }
 
 // Row i of an add of the tensors that stand in the area, to its place.

@@ -11,7 +11,6 @@ ghost use Rattle.layers.specs.Outputs.{outputs_for, byte_by, output_of, outputs_
 use crate::stored::Stored;
 use fields::bytes::i32_at;
 use numbers::finish::finish;
-use numbers::rescale::rescale;
 use numbers::total::total;
 use records::layer::Layer;
 use records::weighing::Weighing;
@@ -56,12 +55,7 @@ fn output(o: Outputs, q: &[u8], w: &[u8], bytes: u32, bias: i32, stored: u32) ->
 {
     let by = o.weighing;
     let a = total(bias, dot(q, w), bytes, stored, q.len() as u32, o.z, by.v);
-    finish(
-        rescale(a, by.scale.multiplier, by.scale.shift),
-        by.zero,
-        by.low,
-        by.high,
-    )
+    finish(by.scale.rescale(a), by.zero, by.low, by.high)
 }
 
 // Output f at the window q, whose byte total is worked out once for all outputs.

@@ -2,6 +2,23 @@
 ghost use Rattle.std.specs.Prelude.{◌≡◌, ◌^◌, ◌<◌};
 ghost use Rattle.numbers.specs.Rescale.{nearest, high, rescaled};
 
+// A multiplier and a shift, by which a total is rescaled.
+#[derive(Clone, Copy, Debug, PartialEq, Eq)]
+pub struct Scale {
+    pub multiplier: u32,
+    pub shift: u8,
+}
+
+impl Scale {
+    // The total rescaled: first the high multiplication, then the division by 2^shift.
+    pub fn rescale(self, total: i32) -> i32
+        requires { (self.multiplier < 2 ^ 31) × (self.shift < 32) }
+        ensures { result ≡ rescaled total self.multiplier self.shift }
+    {
+        nearest_part(high_part(total, self.multiplier), self.shift)
+    }
+}
+
 // floor((total × multiplier + 2^30) / 2^31): a shift of a signed number rounds down.
 fn high_part(total: i32, multiplier: u32) -> i32
     requires { multiplier < 2 ^ 31 }
@@ -20,12 +37,4 @@ fn nearest_part(z: i32, shift: u8) -> i32
     let rest = z & mask;
     let most = (mask >> 1) + i32::from(z < 0);
     (z >> shift) + i32::from(most < rest)
-}
-
-// The total rescaled: first the high multiplication, then the division by 2^shift.
-pub fn rescale(total: i32, multiplier: u32, shift: u8) -> i32
-    requires { (multiplier < 2 ^ 31) × (shift < 32) }
-    ensures { result ≡ rescaled total multiplier shift }
-{
-    nearest_part(high_part(total, multiplier), shift)
 }

@@ -19,7 +19,7 @@ use Rattle.records.specs.Full.{full_at, full_fields}
 use Rattle.records.specs.Add.{add_at, add_fields}
 use Rattle.records.specs.Layer.{sums_of, output_shape}
 use Rattle.records.specs.Reader.{kind_at, own_fault, suit_fault}
-use Rattle.records.specs.declared.layer.Scale.{Scale}
+use Rattle.numbers.specs.declared.rescale.Scale.{Scale}
 use Rattle.records.specs.declared.weighing.Weighing.{Weighing}
 use Rattle.records.specs.declared.conv.Conv.{Conv as ConvParams}
 use Rattle.records.specs.declared.full.Full.{Full as FullParams}

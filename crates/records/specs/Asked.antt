@@ -8,7 +8,7 @@ use Rattle.records.specs.declared.weighing.Weighing.{Weighing}
 use Rattle.records.specs.declared.conv.Conv.{Conv as ConvParams}
 use Rattle.records.specs.declared.full.Full.{Full as FullParams}
 use Rattle.records.specs.declared.add.Add.{Add as AddParams}
-use Rattle.records.specs.declared.layer.Scale.{Scale}
+use Rattle.numbers.specs.declared.rescale.Scale.{Scale}
 use Rattle.records.specs.declared.layer.Kind.{Kind}
 use Rattle.records.specs.declared.layer.Kind.TheVariants.{Conv, Full, Add}
 

@@ -5,9 +5,9 @@ ghost use Rattle.records.specs.Mark.{fixed_len};
 ghost use Rattle.records.specs.Add.{add_at, add_fields};
 ghost use Rattle.records.specs.declared.mark.Mark.TheVariants.{AD};
 
-use crate::layer::Scale;
 use fields::bytes::u32_at;
 use fields::faults::{clamp_fault, multiplier_fault, shift_fault};
+use numbers::rescale::Scale;
 use refusals::refusal::Refusal;
 
 // `first` rescales tensor k − 1, `second` tensor `other`, and `third` their sum.

@@ -6,9 +6,9 @@ ghost use Rattle.records.specs.Conv.{blank_conv, conv_at, conv_fields};
 ghost use Rattle.records.specs.declared.mark.Mark.TheVariants.{CV};
 
 use crate::frame::Frame;
-use crate::layer::Scale;
 use crate::weighing::{Weighing, weighing_at};
 use fields::faults::within;
+use numbers::rescale::Scale;
 use refusals::refusal::Refusal;
 
 // The parameters of a convolution.

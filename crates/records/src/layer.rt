@@ -11,13 +11,6 @@ use crate::mark::Mark;
 use fields::shape::Shape;
 use fields::stored::stored_len;
 
-// A multiplier and a shift, by which a total is rescaled.
-#[derive(Clone, Copy, Debug, PartialEq, Eq)]
-pub struct Scale {
-    pub multiplier: u32,
-    pub shift: u8,
-}
-
 // The kinds of layer, each with its parameters.
 #[derive(Clone, Copy, Debug, PartialEq, Eq)]
 pub enum Kind {

@@ -3,9 +3,9 @@ ghost use Rattle.std.specs.Prelude.{◌≡◌, ◌+◌, ◌≤◌, length};
 ghost use Rattle.refusals.specs.Refusal.{fault_of};
 ghost use Rattle.records.specs.Weighing.{weighing_at, weighing_fields};
 
-use crate::layer::Scale;
 use fields::bytes::u32_at;
 use fields::faults::{clamp_fault, multiplier_fault, shift_fault};
+use numbers::rescale::Scale;
 use refusals::refusal::Refusal;
 
 // v is the weight zero-point and zero the output's.
