@@ -29,63 +29,65 @@ struct Strip {
     tail: usize,
 }
 
-// The strip at row r of the tensor, from column q of the padded tensor.
-fn strip_at(w: Window, r: usize, q: usize) -> Strip
-    requires small { SmallWindow w }
-    requires row { r < w.rows }
-    requires column { q ≤ w.columns + w.left }
-    ensures { Lies w r q result }
-{
-    let first = w.left.saturating_sub(q);
-    let stop = w.width.min(w.columns + w.left - q);
-    let from = (r * w.columns + q.saturating_sub(w.left)) * w.channels;
-    Strip {
-        lead: first * w.channels,
-        from,
-        to: from + (stop - first) * w.channels,
-        tail: (w.width - stop) * w.channels,
+impl Window {
+    // The strip at row r of the tensor, from column q of the padded tensor.
+    fn strip_at(self, r: usize, q: usize) -> Strip
+        requires small { SmallWindow self }
+        requires row { r < self.rows }
+        requires column { q ≤ self.columns + self.left }
+        ensures { Lies self r q result }
+    {
+        let first = self.left.saturating_sub(q);
+        let stop = self.width.min(self.columns + self.left - q);
+        let from = (r * self.columns + q.saturating_sub(self.left)) * self.channels;
+        Strip {
+            lead: first * self.channels,
+            from,
+            to: from + (stop - first) * self.channels,
+            tail: (self.width - stop) * self.channels,
+        }
     }
-}
 
-// One row of a window, from row p, column q of the padded tensor, to patch from at.
-fn put_strip(w: Window, t: &[u8], patch: &mut [u8], at: usize, p: usize, q: usize)
-    requires small { SmallWindow w }
-    requires whole { length t.now ≡ size_of w }
-    requires column { q ≤ w.columns + w.left }
-    requires room { at + w.width * w.channels ≤ length patch.old }
-    ensures { patch.new ≡ pasted patch.old at (strip_of w t.now p q) }
-{
-    // Two tests, since one by `||` is slower.
-    if p < w.top {
-        fill_in(patch, at, w.width * w.channels, w.zero);
-        return;
+    // One row of a window, from row p, column q of the padded tensor, to patch from at.
+    fn put_strip(self, t: &[u8], patch: &mut [u8], at: usize, p: usize, q: usize)
+        requires small { SmallWindow self }
+        requires whole { length t.now ≡ size_of self }
+        requires column { q ≤ self.columns + self.left }
+        requires room { at + self.width * self.channels ≤ length patch.old }
+        ensures { patch.new ≡ pasted patch.old at (strip_of self t.now p q) }
+    {
+        // Two tests, since one by `||` is slower.
+        if p < self.top {
+            fill_in(patch, at, self.width * self.channels, self.zero);
+            return;
+        }
+        if self.rows <= p - self.top {
+            fill_in(patch, at, self.width * self.channels, self.zero);
+            return;
+        }
+        let strip = self.strip_at(p - self.top, q);
+        let start = at + strip.lead;
+        let end = start + (strip.to - strip.from);
+        fill_in(patch, at, strip.lead, self.zero);
+        copy_in(&t[strip.from..strip.to], patch, start);
+        fill_in(patch, end, strip.tail, self.zero);
     }
-    if w.rows <= p - w.top {
-        fill_in(patch, at, w.width * w.channels, w.zero);
-        return;
-    }
-    let strip = strip_at(w, p - w.top, q);
-    let start = at + strip.lead;
-    let end = start + (strip.to - strip.from);
-    fill_in(patch, at, strip.lead, w.zero);
-    copy_in(&t[strip.from..strip.to], patch, start);
-    fill_in(patch, end, strip.tail, w.zero);
-}
 
-// The window from row p, column q of the padded tensor, to the front of patch.
-pub fn gather(w: Window, t: &[u8], patch: &mut [u8], p: usize, q: usize)
-    requires small { SmallWindow w }
-    requires whole { length t.now ≡ size_of w }
-    requires row { p ≤ 131072 }
-    requires column { q ≤ w.columns + w.left }
-    requires room { window_bytes w ≤ length patch.old }
-    ensures { patch.new ≡ pasted patch.old 0 (window_of w t.now p q) }
-{
-    let row = w.width * w.channels;
-    // Summed, since a product each turn is slower.
-    let mut at = 0;
-    for a in 0..w.height {
-        put_strip(w, t, patch, at, p + a, q);
-        at += row;
+    // The window from row p, column q of the padded tensor, to the front of patch.
+    pub fn gather(self, t: &[u8], patch: &mut [u8], p: usize, q: usize)
+        requires small { SmallWindow self }
+        requires whole { length t.now ≡ size_of self }
+        requires row { p ≤ 131072 }
+        requires column { q ≤ self.columns + self.left }
+        requires room { window_bytes self ≤ length patch.old }
+        ensures { patch.new ≡ pasted patch.old 0 (window_of self t.now p q) }
+    {
+        let row = self.width * self.channels;
+        // Summed, since a product each turn is slower.
+        let mut at = 0;
+        for a in 0..self.height {
+            self.put_strip(t, patch, at, p + a, q);
+            at += row;
+        }
     }
 }
