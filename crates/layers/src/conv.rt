@@ -11,13 +11,13 @@ ghost use Rattle.layers.specs.Outputs.{outputs_of};
 ghost use Rattle.layers.specs.Conv.{window_for, conv_outputs, conv_row};
 ghost use Rattle.layers.specs.Row.{tensor_at};
 
-use crate::outputs::{Outputs, outputs_for, put_outputs, put_within};
+use crate::outputs::{Outputs, outputs_for};
 use crate::source::Source;
 use crate::start::row_start;
 use crate::stored::Stored;
 use records::conv::Conv;
 use records::layer::Layer;
-use windows::window::{Window, gather};
+use windows::window::Window;
 
 // The window of a frame over the layer's input.
 fn window_for(y: Layer, c: Conv, z: u8) -> Window
@@ -67,8 +67,8 @@ fn conv_place(
 {
     let n = w.height * w.width * w.channels;
     let size = w.rows * w.columns * w.channels;
-    gather(w, &area[from..from + size], patch, p, q);
-    put_outputs(o, stored, &patch[..n], area, at);
+    w.gather(&area[from..from + size], patch, p, q);
+    o.put_outputs(stored, &patch[..n], area, at);
 }
 
 // Row i, place after place.
@@ -115,7 +115,7 @@ fn plain_row(y: Layer, c: Conv, stored: Stored<'_>, area: &mut [u8], source: Sou
     let start = row_start(source.from, y.input, i);
     let at = row_start(y.place, y.output, i);
     for j in 0..y.output.columns {
-        put_within(o, stored, area, start + j * n, n, at + j * o.count);
+        o.put_within(stored, area, start + j * n, n, at + j * o.count);
     }
 }
 

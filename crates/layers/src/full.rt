@@ -5,7 +5,7 @@ ghost use Rattle.layers.specs.Full.{full_row};
 ghost use Rattle.layers.specs.Asked.{FullReady, Placed};
 ghost use Rattle.layers.specs.Row.{tensor_at};
 
-use crate::outputs::{outputs_for, put_within};
+use crate::outputs::outputs_for;
 use crate::source::Source;
 use crate::stored::Stored;
 use records::full::Full;
@@ -18,5 +18,5 @@ pub fn full_row(y: Layer, f: Full, stored: Stored<'_>, area: &mut [u8], source: 
     ensures { area.new ≡ pasted area.old y.place (full_row y f source.zero stored.entry.file.now stored.entry.sums.now (tensor_at area.old source.from y.input)) }
 {
     let o = outputs_for(y, f.outputs as usize, f.weighing, source.zero);
-    put_within(o, stored, area, source.from, y.input.bytes(), y.place);
+    o.put_within(stored, area, source.from, y.input.bytes(), y.place);
 }

@@ -43,66 +43,67 @@ pub fn outputs_for(y: Layer, count: usize, weighing: Weighing, z: u8) -> Outputs
     }
 }
 
-// One output byte, of a window q with the byte total Σq, and of an output's weights, bias and stored sum.
-fn output(o: Outputs, q: &[u8], w: &[u8], bytes: u32, bias: i32, stored: u32) -> u8
-    requires pairs { length q.now ≡ length w.now }
-    requires few { length q.now ≤ tensor_most }
-    requires total { bytes ≡ sum q.now }
-    requires bias_small { nat_abs bias ≤ 2 ^ 30 }
-    requires stored_small { stored ≤ 255 * length q.now }
-    requires weighing { WeighingOk o.weighing }
-    ensures { result ≡ byte_by o.weighing (total_of bias q.now w.now stored o.z o.weighing.v) }
-{
-    let by = o.weighing;
-    let a = total(bias, dot(q, w), bytes, stored, q.len() as u32, o.z, by.v);
-    finish(by.scale.rescale(a), by.zero, by.low, by.high)
-}
-
-// Output f at the window q, whose byte total is worked out once for all outputs.
-fn output_at(o: Outputs, stored: Stored<'_>, q: &[u8], bytes: u32, f: usize) -> u8
-    requires ready { OutputsReady o (length q.now) stored.file.now stored.sums.now }
-    requires one { f < o.count }
-    requires total { bytes ≡ sum q.now }
-    ensures { result ≡ output_of o stored.entry.file.now stored.entry.sums.now q.now f }
-{
-    let n = q.len();
-    let first = o.weights + f * n;
-    let bias = i32_at(stored.file, o.biases + 4 * f);
-    output(
-        o,
-        q,
-        &stored.file[first..first + n],
-        bytes,
-        bias,
-        stored.sums[o.sums + f],
-    )
-}
-
-// The outputs at the window q, to area from at.
-pub fn put_outputs(o: Outputs, stored: Stored<'_>, q: &[u8], area: &mut [u8], at: usize)
-    requires ready { OutputsReady o (length q.now) stored.file.now stored.sums.now }
-    requires room { at + o.count ≤ length area.old }
-    ensures { area.new ≡ pasted area.old at (outputs_of o stored.entry.file.now stored.entry.sums.now q.now) }
-{
-    let bytes = byte_total(q);
-    for (f, byte) in area[at..at + o.count].iter_mut().enumerate() {
-        *byte = output_at(o, stored, q, bytes, f);
+impl Outputs {
+    // One output byte, of a window q with the byte total Σq, and of an output's weights, bias and stored sum.
+    fn output(self, q: &[u8], w: &[u8], bytes: u32, bias: i32, stored: u32) -> u8
+        requires pairs { length q.now ≡ length w.now }
+        requires few { length q.now ≤ tensor_most }
+        requires total { bytes ≡ sum q.now }
+        requires bias_small { nat_abs bias ≤ 2 ^ 30 }
+        requires stored_small { stored ≤ 255 * length q.now }
+        requires weighing { WeighingOk self.weighing }
+        ensures { result ≡ byte_by self.weighing (total_of bias q.now w.now stored self.z self.weighing.v) }
+    {
+        let by = self.weighing;
+        let a = total(bias, dot(q, w), bytes, stored, q.len() as u32, self.z, by.v);
+        finish(by.scale.rescale(a), by.zero, by.low, by.high)
     }
-}
 
-// The same at a window that stands in the area itself, n bytes from `from`, so that nothing is gathered.
-pub fn put_within(o: Outputs, stored: Stored<'_>, area: &mut [u8], from: usize, n: usize, at: usize)
-    requires ready { OutputsReady o n stored.file.now stored.sums.now }
-    requires apart { Apart from n at o.count }
-    requires window { from + n ≤ length area.old }
-    requires room { at + o.count ≤ length area.old }
-    ensures { area.new ≡ pasted area.old at (outputs_of o stored.entry.file.now stored.entry.sums.now (part area.old from n)) }
-{
-    if from + n <= at {
-        let (before, rest) = area.split_at_mut(at);
-        put_outputs(o, stored, &before[from..from + n], rest, 0);
-    } else {
-        let (before, rest) = area.split_at_mut(from);
-        put_outputs(o, stored, &rest[..n], before, at);
+    // Output f at the window q, whose byte total is worked out once for all outputs.
+    fn output_at(self, stored: Stored<'_>, q: &[u8], bytes: u32, f: usize) -> u8
+        requires ready { OutputsReady self (length q.now) stored.file.now stored.sums.now }
+        requires one { f < self.count }
+        requires total { bytes ≡ sum q.now }
+        ensures { result ≡ output_of self stored.entry.file.now stored.entry.sums.now q.now f }
+    {
+        let n = q.len();
+        let first = self.weights + f * n;
+        let bias = i32_at(stored.file, self.biases + 4 * f);
+        self.output(
+            q,
+            &stored.file[first..first + n],
+            bytes,
+            bias,
+            stored.sums[self.sums + f],
+        )
+    }
+
+    // The outputs at the window q, to area from at.
+    pub fn put_outputs(self, stored: Stored<'_>, q: &[u8], area: &mut [u8], at: usize)
+        requires ready { OutputsReady self (length q.now) stored.file.now stored.sums.now }
+        requires room { at + self.count ≤ length area.old }
+        ensures { area.new ≡ pasted area.old at (outputs_of self stored.entry.file.now stored.entry.sums.now q.now) }
+    {
+        let bytes = byte_total(q);
+        for (f, byte) in area[at..at + self.count].iter_mut().enumerate() {
+            *byte = self.output_at(stored, q, bytes, f);
+        }
+    }
+
+    // The same at a window that stands in the area itself, n bytes from `from`, so that nothing is gathered.
+    pub fn put_within(self, stored: Stored<'_>, area: &mut [u8], from: usize, n: usize, at: usize)
+        requires ready { OutputsReady self n stored.file.now stored.sums.now }
+        requires apart { Apart from n at self.count }
+        requires window { from + n ≤ length area.old }
+        requires room { at + self.count ≤ length area.old }
+        ensures { area.new ≡ pasted area.old at (outputs_of self stored.entry.file.now stored.entry.sums.now (part area.old from n)) }
+    {
+        if from + n <= at {
+            let (before, rest) = area.split_at_mut(at);
+            self.put_outputs(stored, &before[from..from + n], rest, 0);
+        } else {
+            let (before, rest) = area.split_at_mut(from);
+            self.put_outputs(stored, &rest[..n], before, at);
+        }
     }
 }

@@ -1,4 +1,4 @@
--- `layers::outputs::put_within` meets its contract: the window stands before the outputs, or after them.
+-- `layers::outputs::Outputs::put_within` meets its contract: the window stands before the outputs, or after them.
 use native.Mathlib.Nat.{zero-add}
 use native.Mathlib.Omega.{arith}
 use Rattle.lists.specs.Lists.{part}
@@ -6,7 +6,7 @@ use Rattle.lists.proofs.Pasted.{part-part}
 use Rattle.lists.proofs.Laid.{cut_is}
 use Rattle.layers.proofs.Lengths.{outputs_length}
 use Rattle.layers.proofs.Filled.{pasted_rest, pasted_front}
-use Rattle.layers.proofs.outputs.put_within.Goals as goal
+use Rattle.layers.proofs.outputs.Outputs.put_within.Goals as goal
 
 pub returns-then-from-n : goal.returns-then-from-n
 returns-then-from-n c =
@@ -22,4 +22,4 @@ returns-else-from-n c =
     let d = a.area.now in
     let put = c.put_outputs-else-from-n.ensures in
     let s = c.split_at_mut-before-else-from-n.ensures in
-    rw (put, s.front, s.back) (pasted_front d a.from a.at _ (omega (arith, outputs_length a.o a.stored.file.now a.stored.sums.now (part d a.from a.n))))
+    rw (put, s.front, s.back) (pasted_front d a.from a.at _ (omega (arith, outputs_length a.self a.stored.file.now a.stored.sums.now (part d a.from a.n))))
