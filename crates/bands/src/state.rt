@@ -13,12 +13,14 @@ pub struct State {
     pub bands: [Band; 17],
 }
 
-/// The rows of tensors 0 to count; the numbers past these say nothing.
+/// The rows of tensors 0 to count; the numbers past these say nothing. Nothing is allocated, so they stand in an array of the most.
 #[derive(Clone, Copy)]
 pub struct Tensors {
     pub count: usize,
     pub rows: [u16; 17],
 }
+
+// What follows are free functions, since edits of crate clew put another of the same name in the place of one of them.
 
 /// The band of tensor t.
 pub fn band_of(s: State, t: usize) -> Band

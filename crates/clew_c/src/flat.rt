@@ -1,4 +1,4 @@
-// The state as 34 numbers, and back.
+// The state as 34 numbers, and back. No impl of From: it would stand with State, below the definitions that say what these give.
 ghost use Rattle.std.specs.Prelude.{◌≡◌};
 ghost use Rattle.clew_c.specs.Flat.{flat, state_of};
 

@@ -9,7 +9,8 @@ use crate::faults::unless;
 use numbers::limits::{AREA_MOST, TENSOR_MOST};
 use refusals::refusal::Refusal;
 
-// The rows, columns and channels of a tensor.
+// The rows, columns and channels of a tensor. That it is good is no fact of the type: a file's are read before they are tested, and past
+// the last layer there is a shape of no rows.
 #[derive(Clone, Copy, Debug, PartialEq, Eq)]
 pub struct Shape {
     pub rows: usize,

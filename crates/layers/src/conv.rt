@@ -71,7 +71,7 @@ fn conv_place(
     o.put_outputs(stored, &patch[..n], area, at);
 }
 
-// Row i, place after place.
+// Row i, place after place. It stays apart from `plain_row`: it gathers each window, and shares all else.
 fn gathered_row(
     y: Layer,
     c: Conv,

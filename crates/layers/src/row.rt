@@ -15,6 +15,7 @@ use records::layer::{Kind, Layer};
 use std::ops::Range;
 
 // Row i of the layer y, of the first tensor and, where y is an add, of the second. The patch is room for one window.
+// What is asked stays in clauses: it binds a layer, lent slices and places together, and no type of one of them could hold it.
 pub fn put_row(
     y: Layer,
     stored: Stored<'_>,

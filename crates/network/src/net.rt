@@ -60,7 +60,7 @@ impl Network {
         self.layers[m]
     }
 
-    // The shape of tensor t.
+    // The shape of tensor t. A look-up shared with `place` and `zero_point` would be longer than the three.
     pub fn tensor(&self, t: usize) -> Shape
         requires { t ≤ 16 }
         ensures { result ≡ tensor_of self.now t }
@@ -99,7 +99,7 @@ impl Network {
 }
 
 // A layer that is zero throughout: what a list of layers has past its end.
-fn blank_layer() -> Layer
+pub fn blank_layer() -> Layer
     ensures { result ≡ blank_layer }
 {
     let shape = Shape {

@@ -2,7 +2,8 @@
 ghost use Rattle.std.specs.Prelude.{◌≡◌, ◌^◌, ◌<◌};
 ghost use Rattle.numbers.specs.Rescale.{nearest, high, rescaled};
 
-// A multiplier and a shift, by which a total is rescaled.
+// A multiplier and a shift, by which a total is rescaled. That they are in range is no fact of the type: a record's are read before they
+// are tested.
 #[derive(Clone, Copy, Debug, PartialEq, Eq)]
 pub struct Scale {
     pub multiplier: u32,

@@ -2,7 +2,7 @@
 ghost use Rattle.std.specs.Prelude.{◌≡◌, ◌+◌, ◌≤◌, length, get_or};
 ghost use Rattle.records.specs.Mark.{is_mark, mark_at, fixed_len, agreeing};
 
-// Which layer's record a mark begins.
+// Which layer's record a mark begins. `Other` is no None: the definitions say what a record with it is, and the theorem on their order ranges over it.
 #[derive(Clone, Copy, Debug, PartialEq, Eq)]
 pub enum Mark {
     CV,

@@ -74,7 +74,8 @@ fn recompute_layer(
     }
 }
 
-// All layers in order, from the bands of the state s. The answer is the bytes recomputed.
+// All layers in order, from the bands of the state s. The answer is the bytes recomputed. That the network is the file's stays a
+// clause: callers may pass any two of which it holds.
 pub fn recompute(file: &[u8], n: &Network, sums: &[u32], area: &mut [u8], s: State) -> u32
     requires can_recompute { CanRecompute file.now n.now sums.now (length area.old) }
     requires bands_within { BandsWithin n.now s }

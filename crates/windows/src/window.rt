@@ -7,6 +7,7 @@ ghost use Rattle.windows.specs.Window.{strip_of, window_of};
 use lists::write::{copy_in, fill_in};
 
 // The input tensor's shape and zero-point, the kernel's sides, and the rows and columns of padding above and to the left.
+// `SmallWindow` is no fact of the type: the definition of a convolution's row makes a window of any shape and frame.
 #[derive(Clone, Copy)]
 pub struct Window {
     pub rows: usize,
