@@ -28,9 +28,9 @@ fn frame_link(f: Frame, m: usize, rows: u16) -> Link
 {
     Link {
         other: m,
-        before: f.padding as u16,
-        kernel: f.height as u16,
-        stride: f.stride as u16,
+        before: u16::from(f.padding),
+        kernel: u16::from(f.height),
+        stride: u16::from(f.stride),
         rows,
     }
 }
@@ -52,7 +52,7 @@ pub fn link_of(n: &Network, m: usize) -> Link
             rows,
         },
         Kind::Add(a) => Link {
-            other: a.other as usize,
+            other: usize::from(a.other),
             before: 0,
             kernel: 1,
             stride: 1,

@@ -43,7 +43,7 @@ pub fn refused(refusal: Refusal, state: State) -> Outcome
     ensures { result ≡ outcome (refusal_number refusal) 0 state }
 {
     Outcome {
-        number: refusal.number(),
+        number: u8::from(refusal),
         count: 0,
         state,
     }

@@ -18,7 +18,7 @@ pub fn sizes(file: &[u8]) -> Sizes
             reading: network.tensor(network.count).bytes(),
         },
         Err(refusal) => Sizes {
-            number: refusal.number(),
+            number: u8::from(refusal),
             picture: 0,
             sums: 0,
             area: 0,

@@ -28,10 +28,10 @@ fn window_for(y: Layer, c: Conv, z: u8) -> Window
         columns: y.input.columns,
         channels: y.input.channels,
         zero: z,
-        height: c.frame.height as usize,
-        width: c.frame.width as usize,
-        top: c.frame.padding as usize,
-        left: c.frame.padding as usize,
+        height: usize::from(c.frame.height),
+        width: usize::from(c.frame.width),
+        top: usize::from(c.frame.padding),
+        left: usize::from(c.frame.padding),
     }
 }
 
@@ -40,7 +40,7 @@ fn conv_outputs(y: Layer, c: Conv, z: u8) -> Outputs
     requires { y.start ≤ file_most }
     ensures { result ≡ conv_outputs y c z }
 {
-    outputs_for(y, c.filters as usize, c.weighing, z)
+    outputs_for(y, usize::from(c.filters), c.weighing, z)
 }
 
 // The outputs at the window from row p, column q of the padded tensor that stands in area from `from`, to area from at.
@@ -87,7 +87,7 @@ fn gathered_row(
 {
     let w = window_for(y, c, source.zero);
     let o = conv_outputs(y, c, source.zero);
-    let stride = c.frame.stride as usize;
+    let stride = usize::from(c.frame.stride);
     let at = row_start(y.place, y.output, i);
     for j in 0..y.output.columns {
         conv_place(

@@ -17,6 +17,6 @@ pub fn full_row(y: Layer, f: Full, stored: Stored<'_>, area: &mut [u8], source: 
     requires placed { Placed y (length area.old) source.from }
     ensures { area.new ≡ pasted area.old y.place (full_row y f source.zero stored.entry.file.now stored.entry.sums.now (tensor_at area.old source.from y.input)) }
 {
-    let o = outputs_for(y, f.outputs as usize, f.weighing, source.zero);
+    let o = outputs_for(y, usize::from(f.outputs), f.weighing, source.zero);
     o.put_within(stored, area, source.from, y.input.bytes(), y.place);
 }

@@ -1,6 +1,7 @@
 // The lines of the listing.
 ghost use Rattle.std.specs.Prelude.{◌≡◌, ◌+◌, ◌≤◌, ◌<◌, length};
 ghost use Rattle.numbers.specs.Asked.{channels_most};
+ghost use Rattle.refusals.specs.Refusal.{refusal_number};
 ghost use Rattle.fields.specs.Asked.{GoodShape};
 ghost use Rattle.records.specs.Layer.{sums_of};
 ghost use Rattle.network.specs.Taken.{Taken};
@@ -13,6 +14,7 @@ use fields::shape::Shape;
 use network::file::decode;
 use network::net::Network;
 use records::layer::Kind;
+use refusals::refusal::Refusal;
 
 impl Text<'_> {
     // Adds the line of a tensor.
@@ -65,13 +67,13 @@ impl Text<'_> {
     }
 
     // Adds the line of a refused file.
-    fn refusal(&mut self, number: usize)
-        requires { (number < 100000) × (self.old.length + 14 ≤ length self.old.out.now) }
-        ensures written { Adds self.old (refused_line number) self.new }
+    fn refusal(&mut self, refusal: Refusal)
+        requires { self.old.length + 14 ≤ length self.old.out.now }
+        ensures written { Adds self.old (refused_line (refusal_number refusal)) self.new }
         ensures within { self.new.length ≤ self.old.length + 14 }
     {
         self.word(b"refused");
-        self.column(number);
+        self.column(usize::from(u8::from(refusal)));
         self.word(b"\n");
     }
 }
@@ -89,7 +91,7 @@ pub fn list(file: &[u8], out: &mut [u8]) -> usize
             text.length
         }
         Err(refusal) => {
-            text.refusal(usize::from(refusal.number()));
+            text.refusal(refusal);
             text.length
         }
     }

@@ -46,7 +46,7 @@ fn start(s: &[u8]) -> Result<Network, Refusal>
 {
     head_fault(s)?;
     let picture = picture_at(s);
-    Ok(Network::empty(picture, s[7], s[8] as usize, picture.bytes()))
+    Ok(Network::empty(picture, s[7], usize::from(s[8]), picture.bytes()))
 }
 
 // Nothing follows the last layer.

@@ -17,9 +17,9 @@ pub fn picture_at(s: &[u8]) -> Shape
     ensures { (result ≡ picture_at s.now) × SmallShape result }
 {
     Shape {
-        rows: u16_at(s, 2) as usize,
-        columns: u16_at(s, 4) as usize,
-        channels: s[6] as usize,
+        rows: usize::from(u16_at(s, 2)),
+        columns: usize::from(u16_at(s, 4)),
+        channels: usize::from(s[6]),
     }
 }
 

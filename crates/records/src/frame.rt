@@ -37,8 +37,9 @@ impl Frame {
         requires { GoodShape input }
         ensures { result ≡ fits self input }
     {
-        let twice = 2 * self.padding as usize;
-        self.height as usize <= input.rows + twice && self.width as usize <= input.columns + twice
+        let twice = 2 * usize::from(self.padding);
+        usize::from(self.height) <= input.rows + twice
+            && usize::from(self.width) <= input.columns + twice
     }
 
     // The output's shape, with so many channels.
@@ -48,12 +49,12 @@ impl Frame {
         requires frame_fits { FrameFits self input }
         ensures { (result ≡ frame_output self input channels) × SmallShape result }
     {
-        let twice = 2 * self.padding as usize;
-        let stride = self.stride as usize;
+        let twice = 2 * usize::from(self.padding);
+        let stride = usize::from(self.stride);
         Shape {
-            rows: strides_in(input.rows + twice - self.height as usize, stride) + 1,
-            columns: strides_in(input.columns + twice - self.width as usize, stride) + 1,
-            channels: channels as usize,
+            rows: strides_in(input.rows + twice - usize::from(self.height), stride) + 1,
+            columns: strides_in(input.columns + twice - usize::from(self.width), stride) + 1,
+            channels: usize::from(channels),
         }
     }
 }

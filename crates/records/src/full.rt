@@ -47,7 +47,7 @@ impl Full {
         Shape {
             rows: 1,
             columns: 1,
-            channels: self.outputs as usize,
+            channels: usize::from(self.outputs),
         }
     }
 }

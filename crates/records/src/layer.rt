@@ -38,8 +38,8 @@ impl Kind {
         ensures { (result ≡ sums_of self) × (result ≤ 65535) }
     {
         match self {
-            Kind::Conv(c) => c.filters as usize,
-            Kind::Full(f) => f.outputs as usize,
+            Kind::Conv(c) => usize::from(c.filters),
+            Kind::Full(f) => usize::from(f.outputs),
             Kind::Add(_) => 0,
         }
     }
@@ -50,7 +50,7 @@ impl Kind {
     {
         match self {
             Kind::Conv(_) | Kind::Full(_) => m,
-            Kind::Add(a) => a.other as usize,
+            Kind::Add(a) => usize::from(a.other),
         }
     }
 
@@ -60,7 +60,8 @@ impl Kind {
         ensures { (result ≡ terms_of self input) × (result ≤ 16777216) }
     {
         match self {
-            Kind::Conv(c) => (c.frame.height as usize * c.frame.width as usize) * input.channels,
+            Kind::Conv(c) => (usize::from(c.frame.height) * usize::from(c.frame.width))
+                * input.channels,
             Kind::Full(_) => input.bytes(),
             Kind::Add(_) => 0,
         }

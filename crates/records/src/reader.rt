@@ -71,7 +71,7 @@ fn suit_fault(kind: Kind, b: Before, other: Shape) -> Result<(), Refusal>
     let suits = match kind {
         Kind::Conv(c) => c.frame.fits(b.input),
         Kind::Full(_) => true,
-        Kind::Add(a) => a.other as usize <= b.made && other == b.input,
+        Kind::Add(a) => usize::from(a.other) <= b.made && other == b.input,
     };
     unless(suits, Refusal::Unfit)
 }

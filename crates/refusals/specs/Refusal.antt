@@ -17,6 +17,10 @@ refusal_number BadArguments = 7
 refusal_number Stale = 8
 refusal_number BadRecord = 9
 
+-- a number is that of the refusal
+abbrev pub HasNumber : Refusal → ℕ → Type 0
+HasNumber refusal n = n ≡ refusal_number refusal
+
 -- 0, or the number of the refusal
 abbrev pub fault_of : {A : Type 0} → Result A Refusal → ℕ
 fault_of (Ok x) = 0

@@ -1,6 +1,5 @@
 // The nine refusals, in the order of their numbers.
-ghost use Rattle.std.specs.Prelude.{◌≡◌, ◌≤◌};
-ghost use Rattle.refusals.specs.Refusal.{refusal_number, Numbers};
+ghost use Rattle.refusals.specs.Refusal.{HasNumber, Numbers};
 
 use std::error::Error;
 use std::fmt;
@@ -19,13 +18,11 @@ pub enum Refusal {
     BadRecord,
 }
 
-impl Refusal {
-    /// The number by which callers know it.
-    pub fn number(self) -> u8
-        ensures value { result ≡ refusal_number self }
-        ensures bounds { (1 ≤ result) × (result ≤ 9) }
-    {
-        match self {
+impl From<Refusal> for u8 {
+    ghost from_gives = { HasNumber };
+
+    fn from(refusal: Refusal) -> u8 {
+        match refusal {
             Refusal::Malformed => 1,
             Refusal::OutOfRange => 2,
             Refusal::Unfit => 3,

@@ -57,8 +57,8 @@ fn recompute_layer(
     let link = link_of(n, m);
     let state = grow_one(s, link, m);
     let band = band_of(state, m + 1);
-    let first = band.first as usize;
-    let end = band.end as usize;
+    let first = usize::from(band.first);
+    let end = usize::from(band.end);
     put_rows(
         y,
         stored,

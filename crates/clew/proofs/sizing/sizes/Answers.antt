@@ -19,4 +19,4 @@ pub returns-in-Ok : goal.returns-in-Ok
 returns-in-Ok c = rw (sizes_taken c.args.file.now c.in-Ok.ensures refl, c.bytes.ensures, ← c.tensor.ensures, ← c.bytes-in-Ok.ensures)
 
 pub returns-in-Err : goal.returns-in-Err
-returns-in-Err c = rw c.number.ensures.value (sym (sizes_refused c.args.file.now (ap (λ d. d.fault) c.in-Err.ensures) (number_some c.in-Err.refusal)))
+returns-in-Err c = rw c.from.ensures (sym (sizes_refused c.args.file.now (ap (λ d. d.fault) c.in-Err.ensures) (number_some c.in-Err.refusal)))

@@ -37,7 +37,7 @@ conv_place-requires c =
     place-ready a.y a.c h.ready p.input a.source.zero a.i c.loop-j.j a.source.from _
     c.window_for-w.ensures c.conv_outputs-o.ensures h.row c.loop-j-test.true
     (omega (arith, p.input-in, v.laid.same)) (omega (arith, p.within, next, v.laid.same)) (omega (arith, v.patch, c.requires.patch_room)) in
-    record { small = r.0; ready = r.1; tensor = r.2; room = r.3; column = r.4; row = r.5; patch_room = r.6 }
+    rw c.from-stride.ensures (record { small = r.0; ready = r.1; tensor = r.2; room = r.3; column = r.4; row = r.5; patch_room = r.6 })
 
 pub loop-j-preserved : goal.loop-j-preserved
 loop-j-preserved c =
@@ -53,7 +53,7 @@ loop-j-preserved c =
     let tensor : size_of w.result ≡ bytes_of y.input = size_is y a.c a.source.zero w.ensures in record {
       laid =
           place_turn w.result o.result a.stored.file.now a.stored.sums.now a.area.now y.output.columns a.source.from to.result
-          (a.i * a.c.frame.stride) a.c.frame.stride c.loop-j.j
+          (a.i * c.from-stride.result) c.from-stride.result c.loop-j.j
           (apart_within (bytes_of y.input) (bytes_of y.output) _ _ p.apart (omega arith) in_output (omega arith) (omega arith))
           (omega (arith, p.within, in_output)) c.loop-j-test.true v.laid place.ensures place.auto.area;
       patch = place.auto.patch ∙ v.patch;
@@ -68,5 +68,6 @@ shape_of-patch c = c.loop-j.invariant.patch
 pub returns : goal.returns
 returns c =
     let a = c.args in
+    let laid = rw c.from-stride.ensures at c.loop-j.invariant.laid in
     conv-done a.y a.c a.source.zero a.stored.file.now a.stored.sums.now a.area.now a.source.from a.i
-    c.window_for-w.ensures c.conv_outputs-o.ensures c.row_start-at.ensures.value (laid_done _ _ _ _ c.loop-j.invariant.laid (omega arith))
+    c.window_for-w.ensures c.conv_outputs-o.ensures c.row_start-at.ensures.value (laid_done _ _ _ _ laid (omega arith))

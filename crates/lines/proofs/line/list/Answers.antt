@@ -12,5 +12,4 @@ returns-in-Ok-clause-written c = taken_listed _ c.in-Ok.ensures refl refl c.tabl
 
 pub returns-in-Err-clause-written : goal.returns-in-Err-clause-written
 returns-in-Err-clause-written c =
-    let written = rw (c.from.ensures, c.number.ensures.value) at c.refusal.ensures.written in
-    refused_listed _ c.in-Err.ensures (number_some c.in-Err.refusal) refl written (search rules)
+    refused_listed _ c.in-Err.ensures (number_some c.in-Err.refusal) refl c.refusal.ensures.written (search rules)

@@ -52,11 +52,12 @@ overflow_cast-result c =
 
 pub returns-clause-count_value : goal.returns-clause-count_value
 returns-clause-count_value c =
-    count-now c.args.area.now c.args.m c.requires.can_recompute c.requires.m_lt_count.0 c.args.s c.requires.bands_within
-    c.link_of-link.ensures c.grow_one-state.ensures c.band_of-band.ensures c.layer-y.ensures
+    rw (c.from-first.ensures, c.from-end.ensures)
+    (count-now c.args.area.now c.args.m c.requires.can_recompute c.requires.m_lt_count.0 c.args.s c.requires.bands_within
+    c.link_of-link.ensures c.grow_one-state.ensures c.band_of-band.ensures c.layer-y.ensures)
 
 pub returns-clause-area_after : goal.returns-clause-area_after
 returns-clause-area_after c =
     area-now c.args.area.now c.args.m c.requires.can_recompute c.requires.m_lt_count.0 c.args.s c.requires.bands_within
     c.link_of-link.ensures c.grow_one-state.ensures c.band_of-band.ensures c.layer-y.ensures c.source.ensures.zero
-    c.source-2.ensures.zero c.source.ensures.from c.source-2.ensures.from c.put_rows.ensures
+    c.source-2.ensures.zero c.source.ensures.from c.source-2.ensures.from (rw (c.from-first.ensures, c.from-end.ensures) at c.put_rows.ensures)

@@ -1,6 +1,6 @@
 -- `records::frame::Frame::output` meets its contract.
-use Prim.Native.Nat.{ℕ, ◌+◌, ◌-◌, ◌*◌}
-use mathlib.Core.Path.{◌≡◌, ap₂, subst⁻¹}
+use Prim.Native.Nat.{◌+◌, ◌-◌, ◌*◌}
+use mathlib.Core.Path.{◌≡◌, subst⁻¹}
 use native.Mathlib.Omega.{arith}
 use native.Mathlib.Nat.{div-le_self}
 use Rattle.fields.specs.Asked.{SmallShape}
@@ -20,15 +20,14 @@ overflow_add-result-2 c =
     omega (arith, div-le_self (c.args.input.columns + 2 * c.args.self.padding - c.args.self.width) c.args.self.stride)
 
 -- the shape that the code makes of the strides in both sides
-abbrev shape : ℕ → ℕ → ℕ → Shape
-shape channels down across = record { rows = down + 1; columns = across + 1; channels = channels }
-
 shape_is :
-    (c : goal.After-strides_in-2) →
-    shape c.args.channels c.strides_in.result c.strides_in-2.result ≡
-    frame_output c.args.self c.args.input c.args.channels
+    (c : goal.After-from-3) →
+    ◌≡◌ {A = Shape}
+    record { rows = c.strides_in.result + 1; columns = c.strides_in-2.result + 1; channels = c.from-3.result }
+    (frame_output c.args.self c.args.input c.args.channels)
 unfolding frame_output
-shape_is c = ap₂ (shape c.args.channels) c.strides_in.ensures c.strides_in-2.ensures
+shape_is c =
+    rw (c.strides_in.ensures, c.strides_in-2.ensures, c.from-twice.ensures, c.from-stride.ensures, c.from.ensures, c.from-2.ensures, c.from-3.ensures)
 
 pub returns : goal.returns
 returns c =
