@@ -20,7 +20,7 @@ pub struct Tensors {
     pub rows: [u16; 17],
 }
 
-// What follows are free functions, since edits of crate clew put another of the same name in the place of one of them.
+// What follows are free functions: edits of crate clew put another of the same name in the place of some of them.
 
 /// The band of tensor t.
 pub fn band_of(s: State, t: usize) -> Band

@@ -1,4 +1,4 @@
-// A decoded network, by value.
+// A decoded network: its tensors, layers and what it needs.
 ghost use Rattle.std.specs.Prelude.{◌≡◌, ◌≤◌, ◌<◌};
 ghost use Rattle.numbers.specs.Limits.{file_most, area_most};
 ghost use Rattle.numbers.specs.Asked.{channels_most};

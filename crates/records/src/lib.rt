@@ -1,4 +1,4 @@
-// The records of a network file: one layer's record read, or the refusal number of the first fault met in it.
+// The records of a network file: one layer's record read, or refused for the first fault met in it.
 #![tactic(auto)]
 
 pub mod add;
