@@ -51,7 +51,7 @@ pub fn taken(to: &Output, call: Call) {
 // A call and the number that it refused by.
 pub fn answer(to: &Output, refused: Refused) {
     let Refused { call, why } = refused;
-    let number = why.number();
+    let number = u8::from(why);
     let _ = println!(to.out; "{call}: number {number}");
 }
 
@@ -81,7 +81,7 @@ pub fn usage(to: &Output) {
 // That a call refused, and why.
 pub fn refusal(to: &Output, refused: Refused) {
     let Refused { call, why } = refused;
-    let number = why.number();
+    let number = u8::from(why);
     let _ = eprintln!(to.err; "{call}: refused {number}: {why}");
 }
 
