@@ -38,17 +38,25 @@ pub fn within(low: u32, high: u32, x: u32) -> Result<(), Refusal>
 }
 
 // A shift.
+#[tactic(auto, unfolding(crate::specs::Faults::within))]
 pub fn shift_fault(x: u8) -> Result<(), Refusal>
     ensures { fault_of result ≡ shift_fault x }
 {
-    within(0, 31, u32::from(x))
+    match x {
+        0..=31 => Ok(()),
+        _ => Err(Refusal::OutOfRange),
+    }
 }
 
 // A multiplier: from 2^30 to 2^31 - 1.
+#[tactic(auto, unfolding(crate::specs::Faults::within))]
 pub fn multiplier_fault(x: u32) -> Result<(), Refusal>
     ensures { fault_of result ≡ multiplier_fault x }
 {
-    within(0x4000_0000, 0x7fff_ffff, x)
+    match x {
+        0x4000_0000..=0x7fff_ffff => Ok(()),
+        _ => Err(Refusal::OutOfRange),
+    }
 }
 
 // A bias: from -2^30 to 2^30.
@@ -56,7 +64,10 @@ pub fn multiplier_fault(x: u32) -> Result<(), Refusal>
 pub fn bias_fault(b: i32) -> Result<(), Refusal>
     ensures { fault_of result ≡ bias_fault b }
 {
-    unless(b.unsigned_abs() <= 0x4000_0000, Refusal::OutOfRange)
+    match b {
+        -0x4000_0000..=0x4000_0000 => Ok(()),
+        _ => Err(Refusal::OutOfRange),
+    }
 }
 
 // The clamp's low is at most its high.
