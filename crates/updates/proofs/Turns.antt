@@ -127,6 +127,24 @@ module _ {file : List ℕ} {n : Network} {sums : List ℕ} (area : List ℕ) (m 
         (front-redone file n sums can.taken m b area h (band-fits refl) can.area_in ∙
         ap (λ (x : Band). redone n file sums m x area) band-now)
 
+    -- the same of the rows from first up to end, where these are the band's
+    pub rows-now :
+        {y : Layer} {z z' from other first end : ℕ} {front : List ℕ} →
+        y ≡ layer_of n m →
+        z ≡ zero_of n m →
+        z' ≡ zero_of n link.other →
+        from ≡ place_of n m →
+        other ≡ place_of n link.other →
+        front ≡
+        pasted (take n.area area) (y.place + first * row_bytes y.output)
+        (joined (end - first)
+        (λ k.
+        row_of y z z' file sums (tensor_at (take n.area area) from y.input) (tensor_at (take n.area area) other y.input) (first + k))) →
+        first ≡ b.first →
+        end ≡ b.end →
+        front ++ drop n.area area ≡ redone n file sums m (band_of state (suc m)) area
+    rows-now ey ez ez' ef eo e first-is end-is = area-now ey ez ez' ef eo (rw (first-is, end-is) at e)
+
 -- ---- the loop over the layers
 
 -- the first m layers are recomputed

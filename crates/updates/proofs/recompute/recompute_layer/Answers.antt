@@ -1,11 +1,12 @@
 -- `updates::recompute::recompute_layer` meets its contract: each need is a law of one layer's step.
-use Rattle.std.proofs.Common.{◌≤◌}
+use Rattle.std.proofs.Common.{◌≤◌, rules}
 use native.Mathlib.Omega.{arith}
-use Prim.Native.Nat.{ℕ, ◌*◌}
+use Prim.Native.Nat.{ℕ, ◌-◌, ◌*◌}
+use mathlib.Core.Path.{◌∙◌, ap₂}
 use mir.Facts.{Fits-below}
 use Rattle.fields.specs.Shape.{row_bytes}
 use Rattle.updates.proofs.Fairs.{Fits}
-use Rattle.updates.proofs.Turns.{link-needs, grow-needs, few-rows, few-row, ready-now, band-fits, count-now, area-now}
+use Rattle.updates.proofs.Turns.{link-needs, grow-needs, few-rows, few-row, ready-now, band-fits, count-now, rows-now}
 use Rattle.updates.proofs.recompute.recompute_layer.Goals.{After-link_of-link, After-band_of-band}
 use Rattle.updates.proofs.recompute.recompute_layer.Goals as goal
 
@@ -52,12 +53,12 @@ overflow_cast-result c =
 
 pub returns-clause-count_value : goal.returns-clause-count_value
 returns-clause-count_value c =
-    rw (c.from-first.ensures, c.from-end.ensures)
-    (count-now c.args.area.now c.args.m c.requires.can_recompute c.requires.m_lt_count.0 c.args.s c.requires.bands_within
-    c.link_of-link.ensures c.grow_one-state.ensures c.band_of-band.ensures c.layer-y.ensures)
+    ap₂ (λ first end. (end - first) * row_bytes c.layer-y.result.output) (search rules) (search rules) ∙
+    count-now c.args.area.now c.args.m c.requires.can_recompute c.requires.m_lt_count.0 c.args.s c.requires.bands_within
+    c.link_of-link.ensures c.grow_one-state.ensures c.band_of-band.ensures c.layer-y.ensures
 
 pub returns-clause-area_after : goal.returns-clause-area_after
 returns-clause-area_after c =
-    area-now c.args.area.now c.args.m c.requires.can_recompute c.requires.m_lt_count.0 c.args.s c.requires.bands_within
+    rows-now c.args.area.now c.args.m c.requires.can_recompute c.requires.m_lt_count.0 c.args.s c.requires.bands_within
     c.link_of-link.ensures c.grow_one-state.ensures c.band_of-band.ensures c.layer-y.ensures c.source.ensures.zero
-    c.source-2.ensures.zero c.source.ensures.from c.source-2.ensures.from (rw (c.from-first.ensures, c.from-end.ensures) at c.put_rows.ensures)
+    (search rules) c.source.ensures.from c.source-2.ensures.from c.put_rows.ensures (search rules) (search rules)
