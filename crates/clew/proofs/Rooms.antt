@@ -36,16 +36,15 @@ pub record RowsFit (n : Network) (first count len room : ℕ) : Type 0 where
   pub inside : first * row_bytes n.picture + len ≤ room
 
 pub rows_fit :
-    (file sums : List ℕ) (room : ℕ) (s : State) {n : Network} (first count len : ℕ) →
-    0 ≡ earlier (call_fault file sums room s) (rows_fault (decode_of file).network first count len) →
-    n ≡ (decode_of file).network →
+    {file sums : List ℕ} {n : Network} {room : ℕ} (first count len : ℕ) {fault : ℕ} →
+    CanRecompute file n sums room →
+    fault ≡ rows_fault n first count len →
+    fault ≡ 0 →
     RowsFit n first count len room
 unfolding bytes_of
-rows_fit file sums room s {n} first count len e k =
-    let o = passed_on file sums room s e k in
-    let c = o.0.can in
+rows_fit {file} {sums} {n} {room} first count len c e h =
     let t = c.taken in
-    let p = rows_passed n first count len (rw k o.1) in
+    let p = rows_passed n first count len (sym e ∙ h) in
     let w = row_bytes n.picture in
     let few = mul_most n.picture.columns n.picture.channels 256 64 t.picture-columns t.picture-channels in
     let end : first + count ≤ 256 = omega (arith, p.1, t.picture-rows) in
@@ -62,20 +61,41 @@ rows_fit file sums room s {n} first count len e k =
       );
     }
 
+-- the same, where all tests of a change hold
+pub change_fits :
+    (file sums : List ℕ) (room : ℕ) (s : State) {n : Network} (first count len : ℕ) →
+    0 ≡ earlier (call_fault file sums room s) (rows_fault (decode_of file).network first count len) →
+    n ≡ (decode_of file).network →
+    RowsFit n first count len room
+change_fits file sums room s first count len e k =
+    let o = passed_on file sums room s e k in
+    rows_fit first count len o.0.can refl (rw k o.1)
+
 -- the last tensor, out of the area
 pub slice_fits :
+    {file sums : List ℕ} {n : Network} {room from : ℕ} (len : ℕ) →
+    CanRecompute file n sums room →
+    slice_fault n len ≡ 0 →
+    from ≡ place_of n n.count →
+    (from + len ≤ room) × (from + len ≤ 65536)
+slice_fits {file} {sums} {n} len c h place =
+    let t = c.taken in
+    let p = slice_passed n len h in
+    let q = tensors-in file n t n.count (omega arith) in
+    (omega (arith, c.area_in), omega (arith, t.area-few))
+
+-- the same, where all tests of a reading hold
+pub read_fits :
     (file sums : List ℕ) (room : ℕ) (s : State) {n : Network} {from : ℕ} (len : ℕ) →
     0 ≡ earlier (call_fault file sums room s) (earlier (slice_fault (decode_of file).network len) (stale_fault s)) →
     n ≡ (decode_of file).network →
     from ≡ place_of n n.count →
     (len ≡ bytes_of (tensor_of n n.count)) × (from + len ≤ room) × (from + len ≤ 65536)
-slice_fits file sums room s {n} len e k place =
+read_fits file sums room s {n} len e k place =
     let o = passed_on file sums room s e k in
-    let c = o.0.can in
-    let t = c.taken in
-    let p = slice_passed n len (rw k (first_both _ _ o.1).0) in
-    let q = tensors-in file n t n.count (omega arith) in
-    (p, omega (arith, c.area_in), omega (arith, t.area-few))
+    let h : slice_fault n len ≡ 0 = rw k (first_both _ _ o.1).0 in
+    let fits = slice_fits len o.0.can h place in
+    (slice_passed n len h, fits.0, fits.1)
 
 -- a layer of the network, by its number from 1
 pub layer_there : (n : Network) (k : ℕ) {fault : ℕ} → fault ≡ layer_fault n k → fault ≡ 0 → (1 ≤ k) × (k - 1 < n.count)
