@@ -1,4 +1,6 @@
 // The program's words: files, and numbers. What is wrong with one is said on standard error.
+ghost use Rattle.std.specs.Prelude.{◌≤◌, length, IfOk, IfSome};
+
 use crate::print;
 use crate::print::Output;
 use inputs::fill;
@@ -12,7 +14,9 @@ pub fn has_word(rt: &impl Env, i: usize) -> bool {
 }
 
 // Word i, at the front of text; one that is longer than text counts as empty.
-fn word<'a>(rt: &impl Env, i: usize, text: &'a mut [u8; 4096]) -> &'a [u8] {
+fn word<'a>(rt: &impl Env, i: usize, text: &'a mut [u8; 4096]) -> &'a [u8]
+    ensures { length result.now ≤ 4096 }
+{
     let length = rt.arg(i, text).unwrap_or(0);
     &text[..length]
 }
@@ -22,11 +26,9 @@ const EILSEQ: i32 = 84;
 
 // The bytes of the file of that name, at the front of buf. A full buffer is too long for any call, whatever follows; with fewer bytes the
 // file has ended.
-fn contents<'a>(
-    rt: &impl Files,
-    name: &[u8],
-    buf: &'a mut [u8; 65537],
-) -> io::Result<&'a mut [u8]> {
+fn contents<'a>(rt: &impl Files, name: &[u8], buf: &'a mut [u8; 65537]) -> io::Result<&'a mut [u8]>
+    ensures { IfOk result (λ bytes. length bytes.now ≤ 65537) }
+{
     let path = str::from_utf8(name).map_err(|_| io::Error::from_raw_os_error(EILSEQ))?;
     let length = fill(&mut fs::open(rt, path)?, buf)?;
     Ok(&mut buf[..length])
@@ -38,7 +40,9 @@ pub fn file<'a>(
     to: &Output,
     i: usize,
     buf: &'a mut [u8; 65537],
-) -> Option<&'a mut [u8]> {
+) -> Option<&'a mut [u8]>
+    ensures { IfSome result (λ bytes. length bytes.now ≤ 65537) }
+{
     let mut text = [0u8; 4096];
     let name = word(rt, i, &mut text);
     match contents(rt, name, buf) {
